@@ -1,0 +1,5 @@
+pub mod BitLaws
+pub mod SetLaws
+pub mod CollectLaws
+pub mod LowestLaws
+pub mod CountLaws

@@ -1,0 +1,4 @@
+pub mod Tables
+pub mod Claims
+pub mod NearMisses
+pub mod Apart

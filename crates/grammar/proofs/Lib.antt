@@ -1,0 +1,4 @@
+pub mod VerdictLaws
+pub mod Accepted
+pub mod Places
+pub mod Formed

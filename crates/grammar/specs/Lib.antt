@@ -1,0 +1,5 @@
+pub mod Limits
+pub mod Table
+pub mod Verdicts
+pub mod Reading
+pub mod WellFormed

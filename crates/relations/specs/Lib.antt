@@ -1,0 +1,3 @@
+pub mod Paper
+pub mod Paths
+pub mod Computed

@@ -1,0 +1,4 @@
+pub mod Sequences
+pub mod Sound
+pub mod Automaton
+pub mod Run

@@ -1,0 +1,10 @@
+// The run of a plan over a tree. `Ran` is what a run answers; the definitions of `specs/` say which.
+use refusals::Refusal;
+
+pub enum Ran {
+    // The actions that the whole run took.
+    Done(u32),
+    // The budget, after which the run stopped.
+    Stopped(u32),
+    Refused(Refusal),
+}

@@ -1,0 +1,3 @@
+pub mod Paper
+pub mod Visits
+pub mod Computed
