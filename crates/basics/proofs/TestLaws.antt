@@ -68,6 +68,15 @@ true-T b e = subst (λ (x : Bool). T x) (sym e) tt
 pub false-T : (b : Bool) → b ≡ false → T (not b)
 false-T b e = subst (λ (x : Bool). T (not x)) (sym e) tt
 
+-- a choice by a test that passes, and by one that fails
+pub chosen {ℓ} : {A : Type ℓ} (b : Bool) (x y : A) → T b → cond b x y ≡ x
+chosen true x y t = refl
+chosen false x y t = absurd t
+
+pub passed-over {ℓ} : {A : Type ℓ} (b : Bool) (x y : A) → T (not b) → cond b x y ≡ y
+passed-over true x y t = absurd t
+passed-over false x y t = refl
+
 -- two tests that pass together are one
 pub same-test : (a b : Bool) → (T a → T b) → (T b → T a) → a ≡ b
 same-test true true f g = refl

@@ -36,3 +36,10 @@ CircularIDP g = (r : ℕ) × T (ruleCounts g r) × ((o : ℕ) × IDP⁺ g r o o)
 -- "Ordered: no EDP has a cycle"
 abbrev pub Ordered : List ℕ → List ℕ → Type 0
 Ordered g s = (r o : ℕ) → T (ruleCounts g r) → OnCycle (EDP g s r) o → ⊥
+
+-- "the lowest-numbered rule, and in it the lowest occurrence, that lies on a cycle": lies r o says that occurrence o of rule r does
+pub record LowestCycle (g : List ℕ) (lies : ℕ → ℕ → Type 0) (r o : ℕ) : Type 0 where
+  pub counts : T (ruleCounts g r)
+  pub on : lies r o
+  pub lowestRule : (q n : ℕ) → q < r → T (ruleCounts g q) → lies q n → ⊥
+  pub lowestOccurrence : (n : ℕ) → n < o → lies r n → ⊥

@@ -1,0 +1,4 @@
+pub mod NeighbouringSets
+pub mod Exact
+pub mod PaperSets
+pub mod Cycles
