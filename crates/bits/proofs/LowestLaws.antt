@@ -3,11 +3,11 @@
 use Prim.Native.Nat.{ℕ, zero, suc, _+_, _-_, _/_, _%_, _^_, _≤_, _<_}
 use native.Mathlib.Nat.{eq-or-lt-of-le, le-of-suc-le-suc}
 use native.Mathlib.Omega.{arith}
-use mathlib.Core.Path.{_≡_, refl, sym, ap, _∙_, subst}
+use mathlib.Core.Path.{_≡_, refl, sym, ap, _∙_, subst, subst⁻¹}
 use mathlib.Core.Logic.{_⊎_, inl, inr}
 use lib.Count.{trailingZeros, under, trailing-of-zero}
 use lib.Pow.{pow-pos}
-use Rattle.bits.specs.Bit.{bit, lowest}
+use Rattle.bits.specs.Bit.{bit, lowest, First}
 use Rattle.bits.proofs.BitLaws.{bit-zero, bit-suc, bit-cases, bit-of-zero, bit-ext}
 
 -- l is the lowest member of s below w, or w where there is none
@@ -80,3 +80,12 @@ bit-under-lowest w i s l = lowest-is w s .free i l
 
 pub lowest-of-zero : (w : ℕ) → lowest w 0 ≡ w
 lowest-of-zero w = sym (trailing-lowest w 0) ∙ trailing-of-zero w
+
+-- what answers the lowest member of a set that is not empty
+pub first-of : (s l : ℕ) → l ≡ lowest 64 s → s < 2 ^ 64 → 0 < s → First s l
+first-of s l e h p =
+    record {
+        is = e;
+        small = subst⁻¹ (λ (x : ℕ). x < 64) e (lowest-lt 64 s h p);
+        member = subst⁻¹ (λ (x : ℕ). bit x s ≡ 1) e (bit-lowest 64 s h p)
+    }

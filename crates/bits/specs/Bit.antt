@@ -1,6 +1,7 @@
 -- Sets of small numbers, kept as the bits of one number: i is a member of s where bit i of s is 1.
 -- A width w says how many bits are looked at. Assumes nothing.
-use Prim.Native.Nat.{ℕ, zero, suc, _+_, _-_, _*_, _/_, _%_, _^_}
+use Prim.Native.Nat.{ℕ, zero, suc, _+_, _-_, _*_, _/_, _%_, _^_, _<_}
+use mathlib.Core.Path.{_≡_}
 use mathlib.Core.Bool.{Bool, true, false}
 use lib.Dec.{eqb}
 use lib.Bits.{bitAnd, bitOr}
@@ -61,3 +62,9 @@ lowest (suc w) s = let i = lowest w s in i + (1 - bit i s)
 unfoldable pub count : ℕ → ℕ → ℕ
 count zero s = 0
 count (suc w) s = count w s + bit w s
+
+-- l is the lowest member of s, a set of numbers below 64 that is not empty
+pub record First (s l : ℕ) : Type 0 where
+  pub is : l ≡ lowest 64 s
+  pub small : l < 64
+  pub member : bit l s ≡ 1

@@ -89,3 +89,11 @@ pub fn count(set: u64) -> usize
 {
     place(u64::count_ones(set))
 }
+
+// The lowest member of a set that is not empty.
+pub fn first(set: u64) -> usize
+    requires { ⌜ 0 < set ⌝ }
+    ensures { λ r. ⌜ sets.First set r ⌝ }
+{
+    lowest(set)
+}

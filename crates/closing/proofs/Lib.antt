@@ -1,0 +1,2 @@
+pub mod AddLaws
+pub mod ClosedLaws
