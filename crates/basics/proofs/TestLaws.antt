@@ -49,6 +49,12 @@ unfolding _implies_
 implies-use true b t s = t
 implies-use false b t s = absurd s
 
+-- where an implication fails
+pub implies-fails : (a b : Bool) → T (not (a implies b)) → T a × T (not b)
+unfolding _implies_
+implies-fails true b t = (tt, t)
+implies-fails false b t = absurd t
+
 -- a test passes or its opposite does
 pub tested : (b : Bool) → T b ⊎ T (not b)
 tested true = inl tt

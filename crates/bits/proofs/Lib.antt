@@ -3,3 +3,5 @@ pub mod SetLaws
 pub mod CollectLaws
 pub mod LowestLaws
 pub mod CountLaws
+pub mod ShiftLaws
+pub mod MemberLaws

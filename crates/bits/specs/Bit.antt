@@ -53,6 +53,13 @@ unfoldable pub minus : ℕ → ℕ → ℕ
 unfolding common
 minus a b = a - common a b
 
+-- the eight places from number n on, as a set of numbers below 8, and such a set put back to the places from n on
+unfoldable pub field : ℕ → ℕ → ℕ
+field n s = s / 2 ^ n % 2 ^ 8
+
+unfoldable pub raised : ℕ → ℕ → ℕ
+raised n s = s * 2 ^ n
+
 -- The lowest member of s below w, or w where there is none: start at 0, and w times over go one up from what is no member.
 unfoldable pub lowest : ℕ → ℕ → ℕ
 lowest zero s = 0

@@ -76,6 +76,22 @@ fn place(n: u32) -> usize
     n as usize
 }
 
+// The eight places from number n on, as a set of numbers below 8.
+pub fn field(set: u64, n: usize) -> u64
+    requires { ⌜ n ≤ 56 ⌝ }
+    ensures { λ r. ⌜ r ≡ sets.field n set ⌝ }
+{
+    (set >> n) % 256
+}
+
+// A set of numbers below 8 put to the places from n on.
+pub fn raised(set: u64, n: usize) -> u64
+    requires { ⌜ (set < 256) × (n ≤ 56) ⌝ }
+    ensures { λ r. ⌜ r ≡ sets.raised n set ⌝ }
+{
+    set << n
+}
+
 // The lowest member, or 64 where there is none.
 pub fn lowest(set: u64) -> usize
     ensures { λ r. ⌜ r ≡ sets.lowest 64 set ⌝ }

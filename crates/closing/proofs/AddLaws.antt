@@ -10,8 +10,9 @@ use lib.Dec.{T, ltb, leb, eqb, ltb→lt, lt→ltb, leb→le, le→leb, eqb→eq,
 use lib.ListN.{length, set, length-set, getD}
 use lib.Seq.{getD-set-same, getD-set-other, ext-getD}
 use Rattle.bits.specs.Bit.{bit, hasb, insert, remove, union, First}
-use Rattle.bits.proofs.BitLaws.{bit-has, bit-lacks, has-bit, bit-of-zero}
-use Rattle.bits.proofs.SetLaws.{bit-remove-same, bit-remove-other, remove-less}
+use Rattle.bits.proofs.BitLaws.{bit-has}
+use Rattle.bits.proofs.SetLaws.{remove-less}
+use Rattle.bits.proofs.MemberLaws.{has-not, has-other, none-left}
 use Rattle.basics.specs.Tests.{_and_, _or_}
 use Rattle.basics.specs.Lists.{word, tabulate}
 use Rattle.basics.proofs.TestLaws.{
@@ -30,19 +31,6 @@ pub record Adding (entry : List ℕ) (base among a b reached : ℕ) (rows : List
   pub arrives : reached ≡ insert b (word entry (base + b))
   pub within : (o : ℕ) → T (hasb o left) → T (hasb o among)
   pub words : (j : ℕ) → word rows j ≡ cond (done base among left j) (addedRow entry base a b (j - base)) (word entry j)
-
--- a word of the rule's block at an occurrence
-unfoldable pub inBlock : ℕ → ℕ → ℕ → Bool
-inBlock base among j = leb base j and ltb j (base + 64) and hasb (j - base) among
-
-has-not : (i s : ℕ) → T (not (hasb i (remove i s)))
-has-not i s = false-T _ (bit-lacks i (remove i s) (bit-remove-same i s))
-
-has-other : (i j s : ℕ) → (j ≡ i → ⊥) → hasb j (remove i s) ≡ hasb j s
-has-other i j s h = ap (λ (x : ℕ). eqb x 1) (bit-remove-other i j s h)
-
-none-left : (i : ℕ) → T (not (hasb i 0))
-none-left i = false-T _ (bit-lacks i 0 (bit-of-zero i))
 
 module _ (entry : List ℕ) (base among a b reached : ℕ) where
   -- at first nothing is done

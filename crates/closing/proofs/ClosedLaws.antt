@@ -8,9 +8,8 @@ use mathlib.Core.List.{List}
 use native.Mathlib.Omega.{arith}
 use lib.Dec.{T, ltb, leb, eqb, leb→le, ltb→lt, le→leb, lt→ltb, eqb→eq, not-T, T-not}
 use lib.ListN.{length}
-use Rattle.bits.specs.Bit.{bit, hasb, insert, union}
-use Rattle.bits.proofs.BitLaws.{bit-has, has-bit, bit-cases, bit-le}
-use Rattle.bits.proofs.SetLaws.{bit-union, bit-insert-same, bit-insert-other}
+use Rattle.bits.specs.Bit.{hasb, insert, union}
+use Rattle.bits.proofs.MemberLaws.{union-cases, union-left, union-right, insert-cases, insert-new, insert-old}
 use Rattle.basics.specs.Tests.{_and_, _or_}
 use Rattle.basics.specs.Lists.{word, tabulate}
 use Rattle.basics.proofs.TestLaws.{
@@ -18,34 +17,6 @@ use Rattle.basics.proofs.TestLaws.{
 }
 use Rattle.basics.proofs.ListLaws.{length-tabulate, getD-tabulate}
 use Rattle.closing.specs.Rows.{leads, reaches, addedRow, added}
-
--- a member of a union is a member of one of the two, and back
-pub union-cases : (x s t : ℕ) → T (hasb x (union s t)) → T (hasb x s) ⊎ T (hasb x t)
-union-cases x s t h =
-    ⊎-elim (λ e. inr (true-T _ (bit-has x t (omega (arith, e, bit-union x s t, has-bit x (union s t) (T-true _ h))))))
-    (λ e. inl (true-T _ (bit-has x s e))) (bit-cases x s)
-
-pub union-left : (x s t : ℕ) → T (hasb x s) → T (hasb x (union s t))
-union-left x s t h =
-    true-T _ (bit-has x (union s t) (omega (arith, bit-union x s t, has-bit x s (T-true _ h), bit-le x t)))
-
-pub union-right : (x s t : ℕ) → T (hasb x t) → T (hasb x (union s t))
-union-right x s t h =
-    true-T _ (bit-has x (union s t) (omega (arith, bit-union x s t, has-bit x t (T-true _ h), bit-le x s)))
-
--- a member of a set with i inserted is i or was one before, and back
-pub insert-cases : (x i s : ℕ) → T (hasb x (insert i s)) → (x ≡ i) ⊎ T (hasb x s)
-insert-cases x i s h =
-    ⊎-elim (λ e. inl e) (λ n. inr (true-T _ (bit-has x s (sym (bit-insert-other i x s n) ∙ has-bit x (insert i s) (T-true _ h)))))
-    (same-or-not x i)
-
-pub insert-new : (i s : ℕ) → T (hasb i (insert i s))
-insert-new i s = true-T _ (bit-has i (insert i s) (bit-insert-same i s))
-
-pub insert-old : (x i s : ℕ) → T (hasb x s) → T (hasb x (insert i s))
-insert-old x i s h =
-    ⊎-elim (λ e. subst⁻¹ (λ (y : ℕ). T (hasb y (insert i s))) e (insert-new i s))
-    (λ n. true-T _ (bit-has x (insert i s) (bit-insert-other i x s n ∙ has-bit x s (T-true _ h)))) (same-or-not x i)
 
 -- the rows of a rule: closed, and between its occurrences
 pub record Kept (rows : List ℕ) (base among : ℕ) : Type 0 where

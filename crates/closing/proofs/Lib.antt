@@ -1,2 +1,3 @@
 pub mod AddLaws
 pub mod ClosedLaws
+pub mod GatherLaws

@@ -1,11 +1,11 @@
 -- The relation of one rule in 64 lent rows, from a word called base on: bit b of row o says that a path leads from o to b.
 -- The rows are kept closed: 000's addarctrans adds one arc and all that it joins. Assumes nothing.
-use Prim.Native.Nat.{ℕ, _+_, _-_}
+use Prim.Native.Nat.{ℕ, _+_, _*_, _-_, _/_, _%_}
 use mathlib.Core.Bool.{Bool, cond}
 use mathlib.Core.List.{List}
 use lib.Dec.{ltb, leb, eqb}
 use lib.ListN.{length}
-use Rattle.bits.specs.Bit.{hasb, insert, union}
+use Rattle.bits.specs.Bit.{hasb, insert, union, collect}
 use Rattle.basics.specs.Tests.{_and_, _or_}
 use Rattle.basics.specs.Lists.{word, tabulate}
 
@@ -27,3 +27,8 @@ unfoldable pub added : List ℕ → ℕ → ℕ → ℕ → ℕ → List ℕ
 added rows base among a b =
     tabulate (length rows) (λ j.
         cond (leb base j and ltb j (base + 64) and hasb (j - base) among) (addedRow rows base a b (j - base)) (word rows j))
+
+-- The arcs between the attributes at position i, of which there are count: bit 8a + b says that a path leads from attribute a to b.
+unfoldable pub arcsAt : List ℕ → ℕ → ℕ → ℕ → ℕ
+arcsAt rows base i count =
+    collect 64 (λ k. ltb (k / 8) count and leads rows base (8 * i + k / 8) (8 * i + k % 8))

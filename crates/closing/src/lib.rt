@@ -35,3 +35,16 @@ pub fn add_arc(rows: &mut [u64], base: usize, among: u64, a: usize, b: usize)
         rows[base + o] = extended(rows[base + o], o, a, reached);
     }
 }
+
+// The arcs between the attributes at position i, one byte for each attribute that it leads from.
+pub fn arcs_at(rows: &[u64], base: usize, i: usize, count: usize) -> u64
+    requires { ⌜ (base + 64 ≤ length (now rows)) × (i < 8) × (count ≤ 8) ⌝ }
+    ensures { λ r. ⌜ r ≡ spec.arcsAt (now (rows .entry)) base i count ⌝ }
+{
+    let mut arcs = 0;
+    for a in 0..count {
+        let row = rows[base + 8 * i + a];
+        arcs = bits::union(arcs, bits::raised(bits::field(row, 8 * i), 8 * a));
+    }
+    arcs
+}

@@ -10,40 +10,17 @@ use lib.Dec.{T, eqb, eqb→eq, T-not}
 use lib.ListN.{length, replicate, length-replicate, getD-replicate, List·getD-eq-default}
 use lib.Seq.{ext-getD}
 use Rattle.bits.specs.Bit.{bit, number, hasb, collect}
-use Rattle.bits.proofs.BitLaws.{bit-above, bit-ext, number-hasb}
-use Rattle.bits.proofs.CollectLaws.{bit-collect, collect-lt}
+use Rattle.bits.proofs.CollectLaws.{collect-lt}
+use Rattle.bits.proofs.MemberLaws.{hasb-collect, hasb-below, hasb-ext}
 use Rattle.basics.specs.Tests.{_or_, _implies_, all, count}
 use Rattle.basics.specs.Lists.{word}
 use Rattle.basics.proofs.TestLaws.{
-    or-left, or-right, implies-use, tested, same-test, eq-T, below-or-not, all-at, all-intro, all-fails, count-le, count-more
+    or-left, or-right, implies-use, implies-fails, tested, same-test, eq-T, below-or-not, all-at, all-intro, all-fails, count-le, count-more
 }
 use Rattle.basics.proofs.ListLaws.{length-tabulate, getD-tabulate}
 use Rattle.grammar.specs.Limits.{mostAttributes}
 use Rattle.grammar.specs.Table.{symbols}
 use Rattle.relations.specs.Computed.{arcIn, isInduced, round, sameState, rounds, idsOf}
-
--- a collected set has the numbers that pass
-number-is : (b : Bool) → eqb (number b) 1 ≡ b
-number-is true = refl
-number-is false = refl
-
-pub hasb-collect : (w k : ℕ) (f : ℕ → Bool) → k < w → hasb k (collect w f) ≡ f k
-hasb-collect w k f h = ap (λ (n : ℕ). eqb n 1) (bit-collect w k f h) ∙ number-is (f k)
-
--- a set below 2 ^ w has numbers below w alone
-pub hasb-below : (w k s : ℕ) → s < 2 ^ w → T (hasb k s) → k < w
-hasb-below w k s h t =
-    ⊎-elim (λ l. l) (λ l. absurd (omega (arith, bit-above w k s h l, eqb→eq (bit k s) 1 t))) (below-or-not k w)
-
--- and is known by them
-pub hasb-ext : (w s t : ℕ) → s < 2 ^ w → t < 2 ^ w → ((k : ℕ) → k < w → hasb k s ≡ hasb k t) → s ≡ t
-hasb-ext w s t h l e = bit-ext w s t h l (λ k m. sym (number-hasb k s) ∙ (ap (λ (b : Bool). number b) (e k m) ∙ number-hasb k t))
-
--- where an implication fails
-pub implies-fails : (a b : Bool) → T (not (a implies b)) → T a × T (not b)
-unfolding _implies_
-implies-fails true b t = (tt, t)
-implies-fails false b t = absurd t
 
 module _ (g : List ℕ) where
   -- a state has a word of 64 bits for each symbol, and no other arcs
