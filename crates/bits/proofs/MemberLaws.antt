@@ -5,12 +5,12 @@ use mathlib.Core.Path.{_≡_, refl, sym, _∙_, ap, subst, subst⁻¹}
 use mathlib.Core.Logic.{_⊎_, inl, inr, ⊎-elim}
 use mathlib.Core.Bool.{Bool, true, false, not}
 use native.Mathlib.Omega.{arith}
-use lib.Dec.{T, eqb, eqb→eq}
+use lib.Dec.{T, eqb, eqb→eq, T-not}
 use Rattle.basics.proofs.TestLaws.{true-T, T-true, false-T, same-or-not, below-or-not}
-use Rattle.bits.specs.Bit.{bit, number, hasb, collect, insert, remove, union}
+use Rattle.bits.specs.Bit.{bit, number, hasb, collect, insert, remove, union, common, minus}
 use Rattle.bits.proofs.BitLaws.{bit-above, bit-cases, bit-ext, bit-has, bit-lacks, bit-le, bit-of-zero, has-bit, number-hasb}
 use Rattle.bits.proofs.CollectLaws.{bit-collect, collect-lt}
-use Rattle.bits.proofs.SetLaws.{bit-union, bit-insert-same, bit-insert-other, bit-remove-same, bit-remove-other}
+use Rattle.bits.proofs.SetLaws.{bit-union, bit-common, bit-minus, bit-insert-same, bit-insert-other, bit-remove-same, bit-remove-other}
 
 -- a collected set has the numbers that pass
 number-is : (b : Bool) → eqb (number b) 1 ≡ b
@@ -66,3 +66,27 @@ has-other i j s h = ap (λ (x : ℕ). eqb x 1) (bit-remove-other i j s h)
 
 pub none-left : (i : ℕ) → T (not (hasb i 0))
 none-left i = false-T _ (bit-lacks i 0 (bit-of-zero i))
+
+-- a member of what two sets share is one of both, and of what one lacks of the other is one of the first alone
+pub common-both : (a s t : ℕ) → T (hasb a (common s t)) → T (hasb a s) × T (hasb a t)
+common-both a s t h =
+    let e : bit a (common s t) ≡ 1 = has-bit a (common s t) (T-true _ h) in
+    (true-T _ (bit-has a s (omega (arith, e, bit-common a s t, bit-le a s, bit-le a t))),
+    true-T _ (bit-has a t (omega (arith, e, bit-common a s t, bit-le a s, bit-le a t))))
+
+pub both-common : (a s t : ℕ) → T (hasb a s) → T (hasb a t) → T (hasb a (common s t))
+both-common a s t h l =
+    true-T _ (bit-has a (common s t) (omega (arith, has-bit a s (T-true _ h), has-bit a t (T-true _ l), bit-common a s t)))
+
+pub minus-both : (a s t : ℕ) → T (hasb a (minus s t)) → T (hasb a s) × T (not (hasb a t))
+minus-both a s t h =
+    let e : bit a (minus s t) ≡ 1 = has-bit a (minus s t) (T-true _ h) in
+    (true-T _ (bit-has a s (omega (arith, e, bit-minus a s t, bit-le a s))),
+    false-T _ (bit-lacks a t (omega (arith, e, bit-minus a s t, bit-le a s))))
+
+pub both-minus : (a s t : ℕ) → T (hasb a s) → T (not (hasb a t)) → T (hasb a (minus s t))
+both-minus a s t h l =
+    true-T _ (bit-has a (minus s t) (omega (arith, has-bit a s (T-true _ h), lacks a t l, bit-minus a s t)))
+  where
+    lacks : (a t : ℕ) → T (not (hasb a t)) → bit a t ≡ 0
+    lacks a t n = ⊎-elim (λ e. e) (λ e. absurd (T-not (hasb a t) n (true-T _ (bit-has a t e)))) (bit-cases a t)

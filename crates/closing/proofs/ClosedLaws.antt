@@ -16,7 +16,7 @@ use Rattle.basics.proofs.TestLaws.{
     and-intro, and-left, and-right, or-left, or-right, or-cases, chosen, passed-over, true-T, T-true, tested, same-or-not, eq-T
 }
 use Rattle.basics.proofs.ListLaws.{length-tabulate, getD-tabulate}
-use Rattle.closing.specs.Rows.{leads, reaches, addedRow, added}
+use Rattle.closing.specs.Rows.{leads, reaches, addedRow, rewritten, added}
 
 -- the rows of a rule: closed, and between its occurrences
 pub record Kept (rows : List ℕ) (base among : ℕ) : Type 0 where
@@ -32,12 +32,12 @@ Below rows base U = (o x : ℕ) → o < 64 → T (leads rows base o x) → U o x
 module _ (rows : List ℕ) (base among a b : ℕ) (k : Kept rows base among)
     (fa : a < 64) (fb : b < 64) (ia : T (hasb a among)) (ib : T (hasb b among)) where
   pub added-length : length (added rows base among a b) ≡ length rows
-  unfolding added
+  unfolding added rewritten
   added-length = length-tabulate (length rows) _
 
   -- words outside the rule's rows stay
   pub added-outside : (j : ℕ) → (j < base) ⊎ (base + 64 ≤ j) → j < length rows → word (added rows base among a b) j ≡ word rows j
-  unfolding added
+  unfolding added rewritten
   added-outside j out h =
       getD-tabulate (length rows) _ 0 j h
       ∙ passed-over (leb base j and ltb j (base + 64) and hasb (j - base) among) _ _
@@ -57,7 +57,7 @@ module _ (rows : List ℕ) (base among a b : ℕ) (k : Kept rows base among)
 
   -- each row of the rule is the row with the arc added
   pub added-row : (o : ℕ) → o < 64 → word (added rows base among a b) (base + o) ≡ addedRow rows base a b o
-  unfolding added addedRow
+  unfolding added rewritten addedRow
   added-row o h =
       let back : base + o - base ≡ o = omega arith in
       getD-tabulate (length rows) _ 0 (base + o) (omega (arith, k .room))

@@ -1,3 +1,4 @@
+pub mod RewriteLaws
 pub mod AddLaws
 pub mod ClosedLaws
 pub mod GatherLaws

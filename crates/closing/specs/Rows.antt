@@ -22,11 +22,14 @@ unfoldable pub addedRow : List ℕ → ℕ → ℕ → ℕ → ℕ → ℕ
 addedRow rows base a b o =
     cond (reaches rows base o a) (union (word rows (base + o)) (insert b (word rows (base + b)))) (word rows (base + o))
 
+-- words from base on written anew at the members of a set: word base + o becomes f o
+unfoldable pub rewritten : List ℕ → ℕ → ℕ → (ℕ → ℕ) → List ℕ
+rewritten rows base among f =
+    tabulate (length rows) (λ j. cond (leb base j and ltb j (base + 64) and hasb (j - base) among) (f (j - base)) (word rows j))
+
 -- the rows with the arc added at the occurrences that are among some
 unfoldable pub added : List ℕ → ℕ → ℕ → ℕ → ℕ → List ℕ
-added rows base among a b =
-    tabulate (length rows) (λ j.
-        cond (leb base j and ltb j (base + 64) and hasb (j - base) among) (addedRow rows base a b (j - base)) (word rows j))
+added rows base among a b = rewritten rows base among (λ o. addedRow rows base a b o)
 
 -- The arcs between the attributes at position i, of which there are count: bit 8a + b says that a path leads from attribute a to b.
 unfoldable pub arcsAt : List ℕ → ℕ → ℕ → ℕ → ℕ

@@ -1,4 +1,5 @@
-use Rattle.closing.proofs.AddLaws.{Adding, adding-start, turn, finish, taken-less}
+use Rattle.closing.proofs.RewriteLaws.{taken-less}
+use Rattle.closing.proofs.AddLaws.{Adding, adding-start, adding-turn, adding-finish}
 use borrow.Author.Needs.{needs}
 use Rattle.closing.proofs.add_arc.Statement.{statement}
 use Rattle.closing.proofs.add_arc.Tie as tie
@@ -73,11 +74,11 @@ slice-write-rows c = search needs
 
 -- src/lib.rt:32:5
 loop-less : tie.Need-loop-less Inv-loop μ-loop
-loop-less c = search (taken-less)
+loop-less c = search taken-less
 
 -- src/lib.rt:32:5
 loop-again : tie.Need-loop-again Inv-loop μ-loop
-loop-again c = search turn
+loop-again c = search adding-turn
 
 -- src/lib.rt:26:1
 same-length : tie.Need-same-length Inv-loop μ-loop
@@ -85,7 +86,7 @@ same-length c = search needs
 
 -- src/lib.rt:26:1
 returns : tie.Need-returns Inv-loop μ-loop
-returns c = search finish
+returns c = search adding-finish
 
 pub add-arc-spec : {M : Type 1} → statement M
 add-arc-spec =

@@ -1,0 +1,77 @@
+// The sets of each nonterminal, set after set from the end (000, section 7, step 3), with attributes as bits.
+ghost use mathlib.Core.Path.{_≡_};
+ghost use mathlib.Core.Bool.{cond};
+ghost use Prim.Native.Nat.{_+_, _*_, _≤_, _<_};
+ghost use lib.ListN.{length};
+ghost use Rattle.bits.specs.Bit as bit;
+ghost use Rattle.placing.specs.Masks as masks;
+
+// All unplaced successors of attribute a are of the class.
+fn stays(arcs: u64, unplaced: u64, class: u64, a: usize) -> bool
+    requires { ⌜ a < 8 ⌝ }
+    ensures { λ r. ⌜ r ≡ masks.stays arcs unplaced class a ⌝ }
+{
+    bits::minus(bits::common(bits::field(arcs, 8 * a), unplaced), class) == 0
+}
+
+// The set with a, if its successors allow it.
+fn kept(taken: u64, a: usize, stays: bool) -> u64
+    requires { ⌜ a < 64 ⌝ }
+    ensures { λ r. ⌜ r ≡ cond stays (bit.insert a taken) taken ⌝ }
+{
+    if stays {
+        return bits::with(taken, a);
+    }
+    taken
+}
+
+// What a set takes.
+fn taken_from(arcs: u64, unplaced: u64, class: u64) -> u64
+    requires { ⌜ unplaced < 256 ⌝ }
+    ensures { λ r. ⌜ r ≡ masks.takenFrom arcs unplaced class ⌝ }
+{
+    let mut left = bits::common(unplaced, class);
+    let mut taken = 0;
+    while left != 0 {
+        let a = bits::first(left);
+        left = bits::without(left, a);
+        taken = kept(taken, a, stays(arcs, unplaced, class, a));
+    }
+    taken
+}
+
+// Gives the attributes of a set its number.
+fn number_set(sets: &mut [u16], at: usize, taken: u64, k: u16)
+    requires { ⌜ (at + 8 ≤ length (now sets)) × (taken < 256) ⌝ }
+    ensures { λ _. ⌜ now (sets .exit) ≡ masks.numbered (now (sets .entry)) at taken k ⌝ }
+{
+    let mut left = taken;
+    while left != 0 {
+        let a = bits::first(left);
+        left = bits::without(left, a);
+        sets[at + a] = k;
+    }
+}
+
+// Odd sets hold synthesized attributes, even sets inherited.
+fn class_of(every: u64, inherited: u64, k: u16) -> u64
+    ensures { λ r. ⌜ r ≡ masks.classOf every inherited k ⌝ }
+{
+    if k % 2 == 1 {
+        return bits::minus(every, inherited);
+    }
+    inherited
+}
+
+// The nine sets of one symbol, whose words stand from `at` on.
+fn place_symbol(sets: &mut [u16], at: usize, every: u64, inherited: u64, arcs: u64)
+    requires { ⌜ (at + 8 ≤ length (now sets)) × (every < 256) ⌝ }
+    ensures { λ _. ⌜ now (sets .exit) ≡ masks.numberedTo (now (sets .entry)) at every inherited arcs 9 ⌝ }
+{
+    let mut left = every;
+    for k in 0..9u16 {
+        let taken = taken_from(arcs, left, class_of(every, inherited, k + 1));
+        number_set(sets, at, taken, k + 1);
+        left = bits::minus(left, taken);
+    }
+}
