@@ -39,36 +39,36 @@ module _ (g : List ℕ) where
   unfolding present
   present-at p e = ltb→lt p (length g) (unless-passes (ltb p (length g)) (EndsEarly p) e)
 
-  ranged-there : (p : ℕ) (b : Bool) → ranged g p b ≡ Good → p < length g
+  pub ranged-there : (p : ℕ) (b : Bool) → ranged g p b ≡ Good → p < length g
   unfolding ranged
   ranged-there p b e = present-at p (then-first (present g p) (unless b (OutOfRange p)) e)
 
-  ranged-passes : (p : ℕ) (b : Bool) → ranged g p b ≡ Good → T b
+  pub ranged-passes : (p : ℕ) (b : Bool) → ranged g p b ≡ Good → T b
   unfolding ranged
   ranged-passes p b e = unless-passes b (OutOfRange p) (then-second (present g p) (unless b (OutOfRange p)) e)
 
   -- the header's three ranges
-  header-symbols : header g ≡ Good → (1 ≤ symbols g) × (symbols g ≤ mostSymbols)
+  pub header-symbols : header g ≡ Good → (1 ≤ symbols g) × (symbols g ≤ mostSymbols)
   unfolding header
   header-symbols e =
       let t = ranged-passes 0 (leb 1 (symbols g) and leb (symbols g) mostSymbols) (then-first _ _ e) in
       (leb→le 1 (symbols g) (and-left (leb 1 (symbols g)) (leb (symbols g) mostSymbols) t),
       leb→le (symbols g) mostSymbols (and-right (leb 1 (symbols g)) (leb (symbols g) mostSymbols) t))
 
-  header-rules : header g ≡ Good → (1 ≤ rules g) × (rules g ≤ mostRules)
+  pub header-rules : header g ≡ Good → (1 ≤ rules g) × (rules g ≤ mostRules)
   unfolding header
   header-rules e =
       let t = ranged-passes 1 (leb 1 (rules g) and leb (rules g) mostRules) (then-first _ _ (then-second _ _ e)) in
       (leb→le 1 (rules g) (and-left (leb 1 (rules g)) (leb (rules g) mostRules) t),
       leb→le (rules g) mostRules (and-right (leb 1 (rules g)) (leb (rules g) mostRules) t))
 
-  header-start : header g ≡ Good → start g < symbols g
+  pub header-start : header g ≡ Good → start g < symbols g
   unfolding header
   header-start e =
       ltb→lt (start g) (symbols g)
       (ranged-passes 2 (ltb (start g) (symbols g)) (then-second _ _ (then-second _ _ e)))
 
-  symbol-formed : (x : ℕ) → symbolFault g x ≡ Good → SymbolFormed g x
+  pub symbol-formed : (x : ℕ) → symbolFault g x ≡ Good → SymbolFormed g x
   unfolding symbolFault
   symbol-formed x e =
       let e₁ = then-second _ _ e in
@@ -89,7 +89,7 @@ module _ (g : List ℕ) where
       }
 
   module _ (r : ℕ) where
-    left-fits : leftFault g r ≡ Good → (word g (ruleAt g r) < symbols g) × (kind g (word g (ruleAt g r)) ≡ 0)
+    pub left-fits : leftFault g r ≡ Good → (word g (ruleAt g r) < symbols g) × (kind g (word g (ruleAt g r)) ≡ 0)
     unfolding leftFault
     left-fits e =
         (ltb→lt (word g (ruleAt g r)) (symbols g)

@@ -45,7 +45,7 @@ module _ (g : List ℕ) where
       ⊎-elim (λ l. omega (arith, functions-rise p k n (omega arith), function-step p n .0)) (λ e. rw e (omega arith))
       (below-suc k (suc n) (omega arith))
 
-  functions-bound : (p n : ℕ) → functionAt g p n ≤ p + 3 + lengthAt g p + 6 * n
+  pub functions-bound : (p n : ℕ) → functionAt g p n ≤ p + 3 + lengthAt g p + 6 * n
   unfolding functionAt
   functions-bound p zero = omega arith
   functions-bound p (suc n) = omega (arith, functions-bound p n, function-step p n .1)

@@ -1,3 +1,4 @@
 pub mod TakenLaws
 pub mod SymbolLaws
 pub mod StepLaws
+pub mod SetsLaws

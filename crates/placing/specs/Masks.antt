@@ -4,8 +4,9 @@ use Prim.Native.Nat.{ℕ, zero, suc, _*_, _%_}
 use mathlib.Core.Bool.{Bool, cond}
 use mathlib.Core.List.{List}
 use lib.Dec.{eqb}
-use Rattle.bits.specs.Bit.{hasb, collect, common, minus, field}
+use Rattle.bits.specs.Bit.{hasb, collect, common, minus, field, below}
 use Rattle.basics.specs.Tests.{_and_}
+use Rattle.grammar.specs.Table.{nonterminal, attributes, mask}
 use Rattle.closing.specs.Rows.{rewritten}
 
 -- "Odd sets hold synthesized attributes, even sets inherited": the class of set k, of all the attributes and the inherited ones
@@ -37,3 +38,8 @@ unfoldable pub numberedTo : List ℕ → ℕ → ℕ → ℕ → ℕ → ℕ →
 numberedTo sets at every inherited arcs zero = sets
 numberedTo sets at every inherited arcs (suc k) =
     numbered (numberedTo sets at every inherited arcs k) at (takenNext every inherited arcs k) (suc k)
+
+-- the set words with the nine sets of symbol x, if it is a nonterminal
+unfoldable pub placedNonterminal : List ℕ → ℕ → ℕ → List ℕ → List ℕ
+placedNonterminal g x arcs sets =
+    cond (nonterminal g x) (numberedTo sets (8 * x) (below (attributes g x)) (mask g x) arcs 9) sets

@@ -4,6 +4,10 @@ ghost use mathlib.Core.Bool.{cond};
 ghost use Prim.Native.Nat.{_+_, _*_, _≤_, _<_};
 ghost use lib.ListN.{length};
 ghost use Rattle.bits.specs.Bit as bit;
+ghost use Rattle.grammar.specs.declared.Verdict.the-variants.{Good};
+ghost use Rattle.grammar.specs.Reading.{readTable};
+ghost use Rattle.grammar.specs.WellFormed.{SymbolFormed};
+ghost use Rattle.sets.specs.Computed.{setsOf};
 ghost use Rattle.placing.specs.Masks as masks;
 
 // All unplaced successors of attribute a are of the class.
@@ -74,4 +78,30 @@ fn place_symbol(sets: &mut [u16], at: usize, every: u64, inherited: u64, arcs: u
         number_set(sets, at, taken, k + 1);
         left = bits::minus(left, taken);
     }
+}
+
+// The sets of symbol x, if it is a nonterminal.
+fn place_nonterminal(words: &[u16], x: usize, arcs: u64, sets: &mut [u16])
+    requires { ⌜ SymbolFormed (now words) x ⌝ }
+    requires { ⌜ x < 32 ⌝ }
+    requires { ⌜ length (now sets) ≡ 256 ⌝ }
+    ensures { λ _. ⌜ now (sets .exit) ≡ masks.placedNonterminal (now (words .entry)) x arcs (now (sets .entry)) ⌝ }
+{
+    if reader::nonterminal(words, x) {
+        let every = bits::below(reader::attributes(words, x));
+        place_symbol(sets, 8 * x, every, reader::mask(words, x) as u64, arcs);
+        return;
+    }
+}
+
+// The set words of a plan, of a table that is accepted and its IDS.
+pub fn sets_of(words: &[u16], ids: &[u64; 32]) -> [u16; 256]
+    requires { ⌜ readTable (now words) ≡ Good ⌝ }
+    ensures { λ r. ⌜ r ≡ setsOf (now (words .entry)) (now (ids .entry)) ⌝ }
+{
+    let mut sets = [0u16; 256];
+    for x in 0..reader::word(words, 0) {
+        place_nonterminal(words, x, ids[x], &mut sets);
+    }
+    sets
 }

@@ -2,3 +2,7 @@ pub mod Sequences
 pub mod Sound
 pub mod Automaton
 pub mod Run
+pub mod Counts
+pub mod Depth
+pub mod Balance
+pub mod Computing

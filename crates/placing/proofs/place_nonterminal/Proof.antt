@@ -1,0 +1,74 @@
+use Rattle.placing.proofs.SetsLaws.{nonterminal-placed, over-terminal, below-fits}
+use Rattle.bits.specs.Bit.{below}
+use native.Mathlib.Omega.{arith}
+use mathlib.Core.Path.{_∙_, ap}
+use Prim.Native.Nat.{_≤_}
+use borrow.Author.Needs.{needs}
+use Rattle.placing.proofs.place_nonterminal.Statement.{statement}
+use Rattle.placing.proofs.place_nonterminal.Tie as tie
+use Rattle.placing.proofs.place_nonterminal.Reads as reads
+use Rattle.placing.proofs.place_nonterminal.Lts as lts
+use Rattle.bits.proofs.below.Reads as below-reads
+use Rattle.placing.proofs.place_symbol.Reads as place-symbol-reads
+use Rattle.reader.proofs.attributes.Reads as attributes-reads
+use Rattle.reader.proofs.mask.Reads as mask-reads
+use Rattle.reader.proofs.nonterminal.Reads as nonterminal-reads
+
+-- src/lib.rt:90:8
+nonterminal-requires : tie.Need-nonterminal-requires
+nonterminal-requires c κs = search needs
+
+-- src/lib.rt:91:33
+attributes-requires : tie.Need-attributes-requires
+attributes-requires c κs = search needs
+
+-- src/lib.rt:91:13
+below-requires : tie.Need-below-requires
+below-requires c κs = search needs
+
+-- src/lib.rt:92:28
+mul-place-symbol : tie.Need-mul-place-symbol
+mul-place-symbol c = search needs
+
+-- src/lib.rt:92:42
+mask-requires : tie.Need-mask-requires
+mask-requires c κs = search needs
+
+-- src/lib.rt:92:9
+place-symbol-requires : tie.Need-place-symbol-requires
+place-symbol-requires c κs = 
+    let few : c .before .before .before .attributes .result ≤ 8 = omega (arith, c .before .before .before .before .before .before .before .before .pre .0 .attributesFit, c .before .before .before .attributes .ensures .0) in
+    (omega arith, below-fits (c .before .before .before .attributes .result) (c .before .before .below .result) few (c .before .before .below .ensures))
+
+-- src/lib.rt:93:9
+same-length : tie.Need-same-length
+same-length c = search needs
+
+-- src/lib.rt:93:9
+returns : tie.Need-returns
+returns c = 
+    nonterminal-placed (c .before .before .before .before .before .before .before .before .before .before .before .args .words .now) (c .before .before .before .before .before .before .before .before .before .before .before .args .x) (c .before .before .before .before .before .before .before .before .before .before .before .args .arcs) (c .before .before .before .before .before .below .result)
+    (c .before .before .before .mask .result) (c .before .before .before .before .before .before .before .before .before .before .before .args .sets .now) (c .before .before .place-symbol .last .0)
+    (c .before .before .before .before .before .before .before .before .nonterminal .result)
+    (c .before .before .before .before .before .before .before .before .nonterminal .ensures)
+    (c .before .before .before .before .before .before .before .if1 .taken)
+    (c .before .before .before .before .before .below .ensures ∙ ap below (c .before .before .before .before .before .before .attributes .ensures .0))
+    (c .before .before .before .mask .ensures .0) (c .before .before .place-symbol .ensures)
+
+-- src/lib.rt:84:1
+returns-2 : tie.Need-returns-2
+returns-2 c = search over-terminal
+
+pub place-nonterminal-spec : {M : Type 1} → statement M
+place-nonterminal-spec =
+    tie.close
+    (tie.spec
+    nonterminal-requires
+    attributes-requires
+    below-requires
+    mul-place-symbol
+    mask-requires
+    place-symbol-requires
+    same-length
+    returns
+    returns-2)

@@ -1,0 +1,579 @@
+// Reading a grammar table: the words by symbol, rule and function, and the verdict with refusals 1 to 7.
+// A rule is handed on as the word it starts at, a function too; specs/Places.antt says the tests of each by that word.
+use grammar::Verdict;
+use refusals::Refusal;
+ghost use mathlib.Core.Path.{_≡_};
+ghost use Prim.Native.Nat.{_+_, _*_, _^_, _≤_, _<_};
+ghost use lib.Dec.{leb, eqb};
+ghost use lib.ListN.{length, getD, replicate};
+ghost use Rattle.bits.specs.Bit as bit;
+ghost use Rattle.basics.specs.Tests.{_and_, _or_};
+ghost use Rattle.basics.specs.Lists.{word};
+ghost use Rattle.refusals.specs.declared.Refusal.the-variants as refusal;
+ghost use Rattle.grammar.specs.declared.Verdict.the-variants as verdict;
+ghost use Rattle.grammar.specs.Table as table;
+ghost use Rattle.grammar.specs.Verdicts.{unless, each};
+ghost use Rattle.grammar.specs.Reading as reading;
+ghost use Rattle.reader.specs.Offsets.{offsetsFor};
+ghost use Rattle.reader.specs.Places as places;
+
+// The word at a place, 0 past the end.
+pub fn word(words: &[u16], p: usize) -> usize
+    ensures { λ r. ⌜ r ≡ getD (now (words .entry)) p 0 ⌝ }
+    ensures { λ r. ⌜ r < 65536 ⌝ }
+{
+    if p < words.len() {
+        return words[p] as usize;
+    }
+    0
+}
+
+// The three words of a symbol.
+pub fn kind(words: &[u16], x: usize) -> usize
+    requires { ⌜ x < 65536 ⌝ }
+    ensures { λ r. ⌜ r ≡ table.kind (now (words .entry)) x ⌝ }
+    ensures { λ r. ⌜ r < 65536 ⌝ }
+{
+    word(words, 3 + 3 * x)
+}
+
+pub fn attributes(words: &[u16], x: usize) -> usize
+    requires { ⌜ x < 65536 ⌝ }
+    ensures { λ r. ⌜ r ≡ table.attributes (now (words .entry)) x ⌝ }
+    ensures { λ r. ⌜ r < 65536 ⌝ }
+{
+    word(words, 3 + 3 * x + 1)
+}
+
+pub fn mask(words: &[u16], x: usize) -> usize
+    requires { ⌜ x < 65536 ⌝ }
+    ensures { λ r. ⌜ r ≡ table.mask (now (words .entry)) x ⌝ }
+    ensures { λ r. ⌜ r < 65536 ⌝ }
+{
+    word(words, 3 + 3 * x + 2)
+}
+
+pub fn nonterminal(words: &[u16], x: usize) -> bool
+    requires { ⌜ x < 65536 ⌝ }
+    ensures { λ r. ⌜ r ≡ table.nonterminal (now (words .entry)) x ⌝ }
+{
+    kind(words, x) == 0
+}
+
+// The rule at word p: its right length, the symbol at a position, how many functions, and where the first one starts.
+pub fn right_length(words: &[u16], p: usize) -> usize
+    requires { ⌜ p < 65536 ⌝ }
+    ensures { λ r. ⌜ r ≡ table.lengthAt (now (words .entry)) p ⌝ }
+    ensures { λ r. ⌜ r < 65536 ⌝ }
+{
+    word(words, p + 1)
+}
+
+pub fn symbol_of(words: &[u16], p: usize, i: usize) -> usize
+    requires { ⌜ p < 65536 ⌝ }
+    requires { ⌜ i < 65536 ⌝ }
+    ensures { λ r. ⌜ r ≡ places.symbolFrom (now (words .entry)) p i ⌝ }
+    ensures { λ r. ⌜ r < 65536 ⌝ }
+{
+    if i == 0 {
+        return word(words, p);
+    }
+    word(words, p + 1 + i)
+}
+
+pub fn function_count(words: &[u16], p: usize) -> usize
+    requires { ⌜ p < 65536 ⌝ }
+    ensures { λ r. ⌜ r ≡ table.functionsAt (now (words .entry)) p ⌝ }
+    ensures { λ r. ⌜ r < 65536 ⌝ }
+{
+    word(words, p + 2 + right_length(words, p))
+}
+
+pub fn first_function(words: &[u16], p: usize) -> usize
+    requires { ⌜ p < 65536 ⌝ }
+    ensures { λ r. ⌜ r ≡ table.functionAt (now (words .entry)) p 0 ⌝ }
+    ensures { λ r. ⌜ r < 131075 ⌝ }
+{
+    p + 3 + right_length(words, p)
+}
+
+// How many argument words an operation has.
+pub fn argument_words(op: usize) -> usize
+    ensures { λ r. ⌜ r ≡ table.argumentWords op ⌝ }
+    ensures { λ r. ⌜ r ≤ 4 ⌝ }
+{
+    if op <= 1 {
+        return 1;
+    }
+    if op <= 6 {
+        return 2;
+    }
+    if op == 7 {
+        return 3;
+    }
+    4
+}
+
+// Where the function after the one at word f starts.
+pub fn next_function(words: &[u16], f: usize) -> usize
+    requires { ⌜ f < 1000000 ⌝ }
+    ensures { λ r. ⌜ r ≡ places.nextFunction (now (words .entry)) f ⌝ }
+    ensures { λ r. ⌜ r ≤ f + 6 ⌝ }
+{
+    f + 2 + argument_words(word(words, f + 1))
+}
+
+// A symbol's attributes as bits of the position that they stand at.
+fn placed(attributes: u64, i: usize) -> u64
+    requires { ⌜ attributes < 256 ⌝ }
+    requires { ⌜ i < 8 ⌝ }
+    ensures { λ r. ⌜ r ≡ attributes * 2 ^ (8 * i) ⌝ }
+{
+    attributes << (8 * i)
+}
+
+// All attributes of a symbol, as a set.
+fn attribute_set(words: &[u16], x: usize) -> u64
+    requires { ⌜ x < 65536 ⌝ }
+    requires { ⌜ table.attributes (now words) x ≤ 8 ⌝ }
+    ensures { λ r. ⌜ r ≡ bit.below (table.attributes (now (words .entry)) x) ⌝ }
+{
+    bits::below(attributes(words, x))
+}
+
+// Its inherited ones, which the rules that have it on the right define.
+fn inherited_set(words: &[u16], x: usize) -> u64
+    requires { ⌜ x < 65536 ⌝ }
+    ensures { λ r. ⌜ r ≡ table.mask (now (words .entry)) x ⌝ }
+{
+    mask(words, x) as u64
+}
+
+// The occurrences of the rule at word p, as a set.
+pub fn occurrence_set(words: &[u16], p: usize) -> u64
+    requires { ⌜ p < 65536 ⌝ }
+    requires { ⌜ places.Shaped (now words) p ⌝ }
+    ensures { λ r. ⌜ r ≡ places.occurrencesAt (now (words .entry)) p ⌝ }
+{
+    let n = right_length(words, p);
+    let mut set = attribute_set(words, word(words, p));
+    for i in 0..n {
+        let block = attribute_set(words, word(words, p + 2 + i));
+        set = bits::union(placed(block, i + 1), set);
+    }
+    set
+}
+
+// Its defining occurrences: synthesized on the left side, inherited on the right.
+pub fn defining_set(words: &[u16], p: usize) -> u64
+    requires { ⌜ p < 65536 ⌝ }
+    requires { ⌜ places.Shaped (now words) p ⌝ }
+    ensures { λ r. ⌜ r ≡ places.definingsAt (now (words .entry)) p ⌝ }
+{
+    let n = right_length(words, p);
+    let left = word(words, p);
+    let mut set = bits::minus(attribute_set(words, left), inherited_set(words, left));
+    for i in 0..n {
+        let block = inherited_set(words, word(words, p + 2 + i));
+        set = bits::union(placed(block, i + 1), set);
+    }
+    set
+}
+
+// Whether o is a member of the set, for any number o.
+fn member(set: u64, o: usize) -> bool
+    ensures { λ r. ⌜ r ≡ bit.hasb o set ⌝ }
+{
+    if o < 64 {
+        return bits::has(set, o);
+    }
+    false
+}
+
+// 1: the word is there.
+fn present(words: &[u16], p: usize) -> Verdict
+    ensures { λ r. ⌜ r ≡ reading.present (now (words .entry)) p ⌝ }
+{
+    if p < words.len() {
+        return Verdict::Good;
+    }
+    Verdict::Refused(Refusal::EndsEarly(p))
+}
+
+// Refused where a test fails.
+fn unless(test: bool, refusal: Refusal) -> Verdict
+    ensures { λ r. ⌜ r ≡ unless test refusal ⌝ }
+{
+    if test {
+        return Verdict::Good;
+    }
+    Verdict::Refused(refusal)
+}
+
+// 2: the word is there and in its range.
+fn ranged(words: &[u16], p: usize, test: bool) -> Verdict
+    ensures { λ r. ⌜ r ≡ reading.ranged (now (words .entry)) p test ⌝ }
+{
+    let there = present(words, p);
+    let Verdict::Good = there else {
+        return there;
+    };
+    unless(test, Refusal::OutOfRange(p))
+}
+
+// x lies between two ends.
+fn between(low: usize, x: usize, high: usize) -> bool
+    ensures { λ r. ⌜ r ≡ (leb low x and leb x high) ⌝ }
+{
+    if low <= x {
+        return x <= high;
+    }
+    false
+}
+
+// S, R and the start symbol.
+fn header(words: &[u16]) -> Verdict
+    ensures { λ r. ⌜ r ≡ reading.header (now (words .entry)) ⌝ }
+{
+    let symbols = word(words, 0);
+    let first = ranged(words, 0, between(1, symbols, 32));
+    let Verdict::Good = first else {
+        return first;
+    };
+    let second = ranged(words, 1, between(1, word(words, 1), 64));
+    let Verdict::Good = second else {
+        return second;
+    };
+    ranged(words, 2, word(words, 2) < symbols)
+}
+
+// The class of symbol x: a terminal inherits nothing.
+fn symbol_class(words: &[u16], x: usize) -> bool
+    requires { ⌜ x < 65536 ⌝ }
+    ensures { λ r. ⌜ r ≡ (table.nonterminal (now (words .entry)) x or eqb (table.mask (now (words .entry)) x) 0) ⌝ }
+{
+    if nonterminal(words, x) {
+        return true;
+    }
+    mask(words, x) == 0
+}
+
+// The three words of symbol x.
+fn symbol_fault(words: &[u16], x: usize) -> Verdict
+    requires { ⌜ x < 65536 ⌝ }
+    ensures { λ r. ⌜ r ≡ reading.symbolFault (now (words .entry)) x ⌝ }
+{
+    let at = 3 + 3 * x;
+    let count = attributes(words, x);
+    let first = ranged(words, at, kind(words, x) <= 1);
+    let Verdict::Good = first else {
+        return first;
+    };
+    let second = ranged(words, at + 1, count <= 8);
+    let Verdict::Good = second else {
+        return second;
+    };
+    let third = ranged(words, at + 2, inherited_set(words, x) < bits::single(count));
+    let Verdict::Good = third else {
+        return third;
+    };
+    unless(symbol_class(words, x), Refusal::WrongClass(at + 2))
+}
+
+// Every symbol.
+fn symbols_fault(words: &[u16], n: usize) -> Verdict
+    requires { ⌜ n < 65536 ⌝ }
+    ensures { λ r. ⌜ r ≡ each n (λ x. reading.symbolFault (now (words .entry)) x) ⌝ }
+{
+    for x in 0..n {
+        let fault = symbol_fault(words, x);
+        let Verdict::Good = fault else {
+            return fault;
+        };
+    }
+    Verdict::Good
+}
+
+// The start symbol is a nonterminal with no inherited attribute.
+fn starts(words: &[u16], x: usize) -> bool
+    requires { ⌜ x < 65536 ⌝ }
+    ensures { λ r. ⌜ r ≡ (table.nonterminal (now (words .entry)) x and eqb (table.mask (now (words .entry)) x) 0) ⌝ }
+{
+    if nonterminal(words, x) {
+        return mask(words, x) == 0;
+    }
+    false
+}
+
+fn start_class(words: &[u16]) -> Verdict
+    ensures { λ r. ⌜ r ≡ reading.startClass (now (words .entry)) ⌝ }
+{
+    unless(starts(words, word(words, 2)), Refusal::WrongClass(2))
+}
+
+// The left symbol of the rule at word p.
+fn left_fault(words: &[u16], p: usize) -> Verdict
+    ensures { λ r. ⌜ r ≡ places.leftFrom (now (words .entry)) p ⌝ }
+{
+    let left = word(words, p);
+    let there = ranged(words, p, left < word(words, 0));
+    let Verdict::Good = there else {
+        return there;
+    };
+    unless(nonterminal(words, left), Refusal::WrongClass(p))
+}
+
+// n symbols of a right side, from word p on.
+fn right_fault(words: &[u16], p: usize, n: usize) -> Verdict
+    requires { ⌜ p < 1000000 ⌝ }
+    requires { ⌜ n < 65536 ⌝ }
+    ensures { λ r. ⌜ r ≡ each n (λ i. places.symbolTest (now (words .entry)) (p + i)) ⌝ }
+{
+    let symbols = word(words, 0);
+    for i in 0..n {
+        let fault = ranged(words, p + i, word(words, p + i) < symbols);
+        let Verdict::Good = fault else {
+            return fault;
+        };
+    }
+    Verdict::Good
+}
+
+// Whether an argument word is a constant or an occurrence.
+fn argument_fits(constant: bool, occurrences: u64, o: usize) -> bool
+    ensures { λ r. ⌜ r ≡ (constant or bit.hasb o occurrences) ⌝ }
+{
+    if constant {
+        return true;
+    }
+    member(occurrences, o)
+}
+
+// The argument word at q.
+fn argument_fault(words: &[u16], q: usize, constant: bool, occurrences: u64) -> Verdict
+    ensures { λ r. ⌜ r ≡ places.argumentFrom (now (words .entry)) q constant occurrences ⌝ }
+{
+    let there = present(words, q);
+    let Verdict::Good = there else {
+        return there;
+    };
+    unless(
+        argument_fits(constant, occurrences, word(words, q)),
+        Refusal::NoOccurrence(q),
+    )
+}
+
+// The argument words of the function at word f.
+fn arguments_fault(words: &[u16], f: usize, occurrences: u64) -> Verdict
+    requires { ⌜ f < 1000000 ⌝ }
+    ensures { λ r. ⌜ r ≡ places.argumentsFrom (now (words .entry)) f occurrences ⌝ }
+{
+    let op = word(words, f + 1);
+    let n = argument_words(op);
+    for j in 0..n {
+        let fault = argument_fault(words, f + 2 + j, op == 0, occurrences);
+        let Verdict::Good = fault else {
+            return fault;
+        };
+    }
+    Verdict::Good
+}
+
+// The function at word f, where the defining occurrences in `undefined` have no function yet.
+fn function_fault(words: &[u16], f: usize, occurrences: u64, undefined: u64) -> Verdict
+    requires { ⌜ f < 1000000 ⌝ }
+    ensures { λ r. ⌜ r ≡ places.functionFrom (now (words .entry)) f occurrences undefined ⌝ }
+{
+    let there = present(words, f);
+    let Verdict::Good = there else {
+        return there;
+    };
+    let target = word(words, f);
+    let occurs = unless(member(occurrences, target), Refusal::NoOccurrence(f));
+    let Verdict::Good = occurs else {
+        return occurs;
+    };
+    let defines = unless(member(undefined, target), Refusal::NotDefining(f));
+    let Verdict::Good = defines else {
+        return defines;
+    };
+    let operation = ranged(words, f + 1, word(words, f + 1) <= 8);
+    let Verdict::Good = operation else {
+        return operation;
+    };
+    arguments_fault(words, f, occurrences)
+}
+
+// What reading a rule hands on: where the next one starts, and the defining occurrences that got no function.
+struct Rule {
+    verdict: Verdict,
+    next: usize,
+    undefined: u64,
+}
+
+// The functions of the rule at word p.
+fn functions_fault(words: &[u16], p: usize, occurrences: u64, defining: u64) -> Rule
+    requires { ⌜ p < 65536 ⌝ }
+    requires { ⌜ table.functionsAt (now words) p ≤ 64 ⌝ }
+    ensures { λ r. ⌜ r .verdict ≡ places.functionsFrom (now (words .entry)) p occurrences defining ⌝ }
+    ensures { λ r. ⌜ (r .verdict ≡ verdict.Good → r .next ≡ table.functionAt (now (words .entry)) p (table.functionsAt (now (words .entry)) p)) ⌝ }
+    ensures { λ r. ⌜ (r .verdict ≡ verdict.Good → r .undefined ≡ places.undefinedAfter (now (words .entry)) p (table.functionsAt (now (words .entry)) p) defining) ⌝ }
+{
+    let count = function_count(words, p);
+    let mut f = first_function(words, p);
+    let mut undefined = defining;
+    for k in 0..count {
+        let fault = function_fault(words, f, occurrences, undefined);
+        let Verdict::Good = fault else {
+            return Rule {
+                verdict: fault,
+                next: f,
+                undefined,
+            };
+        };
+        undefined = bits::without(undefined, word(words, f));
+        f = next_function(words, f);
+    }
+    Rule {
+        verdict: Verdict::Good,
+        next: f,
+        undefined,
+    }
+}
+
+// What follows the left symbol of the rule at word p.
+fn body_fault(words: &[u16], p: usize) -> Rule
+    requires { ⌜ p < 65536 ⌝ }
+    requires { ⌜ places.Symbols (now words) ⌝ }
+    requires { ⌜ word (now words) p < table.symbols (now words) ⌝ }
+    ensures { λ r. ⌜ r .verdict ≡ places.bodyFrom (now (words .entry)) p ⌝ }
+    ensures { λ r. ⌜ places.Handed (now (words .entry)) p (r .verdict) (r .next) (r .undefined) ⌝ }
+{
+    let n = right_length(words, p);
+    let short = ranged(words, p + 1, n <= 7);
+    let Verdict::Good = short else {
+        return Rule {
+            verdict: short,
+            next: p,
+            undefined: 0,
+        };
+    };
+    let right = right_fault(words, p + 2, n);
+    let Verdict::Good = right else {
+        return Rule {
+            verdict: right,
+            next: p,
+            undefined: 0,
+        };
+    };
+    let few = ranged(words, p + 2 + n, function_count(words, p) <= 64);
+    let Verdict::Good = few else {
+        return Rule {
+            verdict: few,
+            next: p,
+            undefined: 0,
+        };
+    };
+    functions_fault(words, p, occurrence_set(words, p), defining_set(words, p))
+}
+
+// 6: the rule before the one at word p left no defining occurrence without a function.
+fn rule_before(undefined: u64, p: usize) -> Verdict
+    ensures { λ r. ⌜ r ≡ unless (eqb undefined 0) (refusal.Undefined p) ⌝ }
+{
+    unless(undefined == 0, Refusal::Undefined(p))
+}
+
+// The rule at word p. At its first word its own faults go before 6 of the rule before.
+fn rule_fault(words: &[u16], p: usize, undefined: u64) -> Rule
+    requires { ⌜ p < 65536 ⌝ }
+    requires { ⌜ places.Symbols (now words) ⌝ }
+    ensures { λ r. ⌜ r .verdict ≡ places.ruleFrom (now (words .entry)) p undefined ⌝ }
+    ensures { λ r. ⌜ places.Handed (now (words .entry)) p (r .verdict) (r .next) (r .undefined) ⌝ }
+{
+    let left = left_fault(words, p);
+    let Verdict::Good = left else {
+        return Rule {
+            verdict: left,
+            next: p,
+            undefined: 0,
+        };
+    };
+    let before = rule_before(undefined, p);
+    let Verdict::Good = before else {
+        return Rule {
+            verdict: before,
+            next: p,
+            undefined: 0,
+        };
+    };
+    body_fault(words, p)
+}
+
+// 7: the words end with the last rule.
+fn left_over(words: &[u16], p: usize) -> Verdict
+    ensures { λ r. ⌜ r ≡ unless (leb (length (now (words .entry))) p) (refusal.LeftOver p) ⌝ }
+{
+    unless(words.len() <= p, Refusal::LeftOver(p))
+}
+
+// The verdict on a table, and the word at which each of its rules starts.
+pub struct Reading {
+    pub verdict: Verdict,
+    pub offsets: [u16; 64],
+}
+
+fn refused(verdict: Verdict) -> Reading
+    ensures { λ r. ⌜ r .verdict ≡ verdict ⌝ }
+    ensures { λ r. ⌜ r .offsets ≡ replicate 64 0 ⌝ }
+{
+    Reading {
+        verdict,
+        offsets: [0u16; 64],
+    }
+}
+
+pub fn read(words: &[u16]) -> Reading
+    ensures { λ r. ⌜ r .verdict ≡ reading.readTable (now (words .entry)) ⌝ }
+    ensures { λ r. ⌜ r .offsets ≡ offsetsFor (now (words .entry)) (reading.readTable (now (words .entry))) ⌝ }
+{
+    let top = header(words);
+    let Verdict::Good = top else {
+        return refused(top);
+    };
+    let symbols = word(words, 0);
+    let bad = symbols_fault(words, symbols);
+    let Verdict::Good = bad else {
+        return refused(bad);
+    };
+    let start = start_class(words);
+    let Verdict::Good = start else {
+        return refused(start);
+    };
+    let rules = word(words, 1);
+    let mut offsets = [0u16; 64];
+    let mut p = 3 + 3 * symbols;
+    let mut undefined: u64 = 0;
+    for r in 0..rules {
+        let rule = rule_fault(words, p, undefined);
+        let fault = rule.verdict;
+        let Verdict::Good = fault else {
+            return refused(fault);
+        };
+        offsets[r] = p as u16;
+        p = rule.next;
+        undefined = rule.undefined;
+    }
+    let last = rule_before(undefined, p);
+    let Verdict::Good = last else {
+        return refused(last);
+    };
+    let over = left_over(words, p);
+    let Verdict::Good = over else {
+        return refused(over);
+    };
+    Reading {
+        verdict: Verdict::Good,
+        offsets,
+    }
+}

@@ -1,0 +1,4 @@
+pub mod Accepted
+pub mod Formed
+pub mod Cells
+pub mod EquationLaws
