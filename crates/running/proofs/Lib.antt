@@ -16,3 +16,5 @@ pub mod OnlySolution
 pub mod SameValues
 pub mod StackDepth
 pub mod EverySoundPlan
+pub mod SameSets
+pub mod PlannedSound
