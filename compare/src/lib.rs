@@ -1,6 +1,7 @@
 //! An independent implementation of document 01, in ordinary Rust: the tests compare the proved one with it, word for word,
 //! and the benchmarks measure both in one run. It was written from the documents, not from the proved code.
 
+pub mod cases;
 pub mod grammar;
 pub mod plan;
 pub mod run;
