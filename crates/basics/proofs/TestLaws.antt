@@ -39,6 +39,17 @@ unfolding _and_
 and-right true b t = t
 and-right false b t = absurd t
 
+-- a joined test where its first part is known
+pub and-passed : (a b : Bool) → T a → (a and b) ≡ b
+unfolding _and_
+and-passed true b t = refl
+and-passed false b t = absurd t
+
+pub and-failed : (a b : Bool) → T (not a) → (a and b) ≡ false
+unfolding _and_
+and-failed true b t = absurd t
+and-failed false b t = refl
+
 pub implies-intro : (a b : Bool) → (T a → T b) → T (a implies b)
 unfolding _implies_
 implies-intro true b f = f tt

@@ -7,7 +7,7 @@ use mathlib.Core.Bool.{Bool, true, false, cond, not}
 use mathlib.Core.List.{List}
 use lib.Dec.{T, not-T}
 use Rattle.basics.specs.Tests.{some, least}
-use Rattle.basics.proofs.TestLaws.{tested, chosen, passed-over, some-find}
+use Rattle.basics.proofs.TestLaws.{tested, chosen, passed-over, some-find, false-T}
 use Rattle.refusals.specs.declared.Refusal.{Refusal}
 use Rattle.refusals.specs.declared.Refusal.the-variants.{CircularIdp, CircularEdp, Stuck}
 use Rattle.grammar.specs.Limits.{mostOccurrences}
@@ -75,8 +75,17 @@ module _ (g : List ℕ) (good : readTable g ≡ Good) where
       let e = path-first p in
       occurs-below g (accepted g good) r o c (edp-from g good (setsFor g) r c o (e .0) (e .1))
 
+  -- where the search finds nothing, there is none
+  pub no-idp-cycle : circular g (idpPaths g (idsOf g)) ≡ false → CircularIDP g → ⊥
+  no-idp-cycle e k =
+      cycle-none g (idpPaths g (idsOf g)) (λ r o. IDP⁺ g r o o) idp-exact idp-inside (false-T _ e) (k .0) (k .2 .0) (k .1) (k .2 .1)
+
+  pub no-edp-cycle : circular g (edpPaths g (idsOf g) (setsFor g)) ≡ false → Ordered g (setsFor g)
+  no-edp-cycle e =
+      cycle-none g (edpPaths g (idsOf g) (setsFor g)) (λ r o. OnCycle (EDP g (setsFor g) r) o) edp-exact edp-inside (false-T _ e)
+
   module _ (rowsLength planLength : ℕ) (space : room g rowsLength planLength ≡ Good) where
-    comes : outcome g rowsLength planLength ≡ afterRoom g (idsOf g)
+    pub comes : outcome g rowsLength planLength ≡ afterRoom g (idsOf g)
     unfolding outcome afterReading
     comes = ap (afterReading g) (then-good (readTable g) (room g rowsLength planLength) good space)
 

@@ -2,7 +2,7 @@
 -- Assumes nothing.
 use Prim.Native.Nat.{ℕ, suc, _-_, _≤_, _<_}
 use mathlib.Core.Path.{_≡_, sym, _∙_, ap, subst}
-use mathlib.Core.List.{List, _++_}
+use mathlib.Core.List.{List}
 use native.Mathlib.Omega.{arith}
 use lib.ListN.{length, getD, replicate, List·getD-append}
 use Rattle.basics.specs.Lists.{tabulate, padded}

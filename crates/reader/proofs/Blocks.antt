@@ -2,21 +2,21 @@
 -- Each new block goes on top of the ones before it, and past the rule's last position nothing is a member. Assumes nothing.
 use Prim.Native.Nat.{ℕ, zero, suc, _+_, _-_, _*_, _/_, _%_, _^_, _≤_, _<_}
 use mathlib.Core.Path.{_≡_, refl, sym, _∙_, ap, ap₂, subst}
-use mathlib.Core.Logic.{_⊎_, ⊎-elim}
+use mathlib.Core.Logic.{⊎-elim}
 use mathlib.Core.Bool.{Bool, true, false, cond, not}
 use mathlib.Core.List.{List}
 use native.Mathlib.Omega.{arith}
-use native.Mathlib.Nat.{add-suc, add-zero, add-mul, add-comm, mul-assoc, mul-comm, zero-mul, lt-of-lt-of-le, lt-of-le-of-lt, sub-le}
+use native.Mathlib.Nat.{add-suc, add-zero, add-mul, add-comm, mul-assoc, mul-comm, zero-mul, lt-of-lt-of-le}
 use native.Mathlib.Numerals.{add-one}
 use lib.Dec.{ltb, leb, eqb}
 use lib.ListN.{getD}
 use lib.Bits.{or-shifted}
-use lib.Pow.{pow-add, pow-mono, pow-pos, ones-lt}
-use borrow.Author.Tests.{lt-ltb, le-ltb, le-leb, lt-leb, eq-eqb, ne-eqb}
+use lib.Pow.{pow-add, pow-mono, ones-lt}
+use borrow.Author.Tests.{lt-ltb, le-ltb, le-leb, lt-leb, ne-eqb}
 use Rattle.basics.specs.Tests.{_and_}
 use Rattle.basics.proofs.TestLaws.{below-or-not, below-suc}
 use Rattle.bits.specs.Bit.{bit, number, hasb, below, collect, union, minus}
-use Rattle.bits.proofs.BitLaws.{bit-above, bit-below, bit-cases, bit-has, bit-lacks, number-hasb}
+use Rattle.bits.proofs.BitLaws.{bit-above, bit-below, number-hasb}
 use Rattle.bits.proofs.CollectLaws.{collect-lt, collect-unique}
 use Rattle.bits.proofs.SetLaws.{bit-minus, minus-lt}
 use Rattle.grammar.specs.Table.{attributes, mask, inherited, lengthAt, position, attribute}
@@ -137,11 +137,33 @@ module _ (g : List ℕ) (p : ℕ) where
     pub formed-at : (i x : ℕ) → i < lengthAt g p → x ≡ getD g (p + 2 + i) 0 → SymbolFormed g x
     formed-at i x h e = subst (λ (y : ℕ). SymbolFormed g y) (symbol-at i ∙ sym e) (shape .formed (i + 1) (omega arith))
 
-    -- the left side's block alone
-    first-block : (f : ℕ → Bool) (s : ℕ) → s < 256 → ((a : ℕ) → a < 8 → bit a s ≡ number (f (8 * 0 + a))) → s ≡ collect (8 * (0 + 1)) f
-    first-block f s h e =
-        collect-unique 8 s f h
-        (λ a l. e a l ∙ ap (λ (o : ℕ). number (f o)) (let z : 8 * 0 + a ≡ a = omega arith in z))
+    -- the inherited attributes of a symbol are few enough for a block
+    pub mask-small : (x : ℕ) → SymbolFormed g x → mask g x < 256
+    mask-small x f = lt-of-lt-of-le (f .maskFits) (pow-mono {i = attributes g x} {j = 8} (f .attributesFit))
+
+    -- The left side's block alone, the block of one more position on the right, which is b of the symbol there, and the end of the rule.
+    module _ (f : ℕ → Bool) where
+      first-block : (s : ℕ) → s < 256 → ((a : ℕ) → a < 8 → bit a s ≡ number (f (8 * 0 + a))) → s ≡ collect (8 * (0 + 1)) f
+      first-block s h e =
+          collect-unique 8 s f h
+          (λ a l. e a l ∙ ap (λ (o : ℕ). number (f o)) (let z : 8 * 0 + a ≡ a = omega arith in z))
+
+      next-block : (b : ℕ → ℕ) (i x m q u s : ℕ) → s ≡ collect (8 * (i + 1)) f → x ≡ getD g (p + 2 + i) 0 → m ≡ b x → q ≡ m * 2 ^ (8 * (i + 1))
+          → u ≡ union q s → b x < 256 → ((a : ℕ) → a < 8 → bit a (b (symbolFrom g p (i + 1))) ≡ number (f (8 * (i + 1) + a)))
+          → u ≡ collect (8 * (i + 1 + 1)) f
+      next-block b i x m q u s k d e h w small bits =
+          w
+          ∙ (ap₂ union h k
+          ∙ block-more f (i + 1) m (subst (λ (y : ℕ). y < 256) (sym e) small)
+          (λ a l. ap (bit a) (e ∙ ap b (d ∙ sym (symbol-at i))) ∙ bits a l))
+
+      last-block : (n i s : ℕ) → n ≡ lengthAt g p → i ≤ n → n ≤ i → s ≡ collect (8 * (i + 1)) f
+          → ((o : ℕ) → 8 * (lengthAt g p + 1) ≤ o → f o ≡ false) → s ≡ collect 64 f
+      last-block n i s e h l k none =
+          let q : i ≡ lengthAt g p = omega arith in
+          k
+          ∙ (ap (λ (j : ℕ). collect (8 * (j + 1)) f) q
+          ∙ sym (collect-rest (8 * (lengthAt g p + 1)) 64 f (omega (arith, shape .short)) none))
 
     pub occurrences-start : (x s : ℕ) → x ≡ getD g p 0 → s ≡ below (attributes g x) → s ≡ collect (8 * (0 + 1)) (λ o. occurrenceFrom g p o)
     unfolding symbolFrom
@@ -152,30 +174,18 @@ module _ (g : List ℕ) (p : ℕ) where
         ap (bit a) (e ∙ ap (λ (y : ℕ). below (attributes g y)) d)
         ∙ (bit-of-below (attributes g (getD g p 0)) a ∙ sym (ap number (occurrence-bit 0 a (omega arith) l))))
 
-    pub occurrences-more : (i x b q u s : ℕ) → i < lengthAt g p → s ≡ collect (8 * (i + 1)) (λ o. occurrenceFrom g p o)
-        → x ≡ getD g (p + 2 + i) 0 → b ≡ below (attributes g x) → q ≡ b * 2 ^ (8 * (i + 1)) → u ≡ union q s
+    pub occurrences-more : (i x m q u s : ℕ) → i < lengthAt g p → s ≡ collect (8 * (i + 1)) (λ o. occurrenceFrom g p o)
+        → x ≡ getD g (p + 2 + i) 0 → m ≡ below (attributes g x) → q ≡ m * 2 ^ (8 * (i + 1)) → u ≡ union q s
         → u ≡ collect (8 * (i + 1 + 1)) (λ o. occurrenceFrom g p o)
-    occurrences-more i x b q u s h k d e m w =
-        w
-        ∙ (ap₂ union m k
-        ∙ block-more (λ o. occurrenceFrom g p o) (i + 1) b
-        (subst (λ (y : ℕ). y < 256) (sym e) (below-small (attributes g x) (formed-at i x h d .attributesFit)))
-        (λ a l.
-        ap (bit a) (e ∙ ap (λ (y : ℕ). below (attributes g y)) (d ∙ sym (symbol-at i)))
-        ∙ (bit-of-below (attributes g (symbolFrom g p (i + 1))) a ∙ sym (ap number (occurrence-bit (i + 1) a (omega arith) l)))))
+    occurrences-more i x m q u s h k d e n w =
+        next-block (λ o. occurrenceFrom g p o) (λ y. below (attributes g y)) i x m q u s k d e n w
+        (below-small (attributes g x) (formed-at i x h d .attributesFit))
+        (λ a l. bit-of-below (attributes g (symbolFrom g p (i + 1))) a ∙ sym (ap number (occurrence-bit (i + 1) a (omega arith) l)))
 
     pub occurrences-end : (n i s : ℕ) → n ≡ lengthAt g p → i ≤ n → n ≤ i → s ≡ collect (8 * (i + 1)) (λ o. occurrenceFrom g p o)
         → s ≡ occurrencesAt g p
     unfolding occurrencesAt
-    occurrences-end n i s e h l k =
-        let q : i ≡ lengthAt g p = omega arith in
-        k
-        ∙ (ap (λ (j : ℕ). collect (8 * (j + 1)) (λ o. occurrenceFrom g p o)) q
-        ∙ sym (collect-rest (8 * (lengthAt g p + 1)) 64 (λ o. occurrenceFrom g p o) (omega (arith, shape .short)) past))
-
-    -- the inherited attributes of a symbol are few enough for a block
-    pub mask-small : (x : ℕ) → SymbolFormed g x → mask g x < 256
-    mask-small x f = lt-of-lt-of-le (f .maskFits) (pow-mono {i = attributes g x} {j = 8} (f .attributesFit))
+    occurrences-end n i s e h l k = last-block (λ o. occurrenceFrom g p o) n i s e h l k past
 
     pub definings-start : (x t m s : ℕ) → x ≡ getD g p 0 → t ≡ below (attributes g x) → m ≡ mask g x → s ≡ minus t m
         → s ≡ collect (8 * (0 + 1)) (λ o. definingFrom g p o)
@@ -192,18 +202,14 @@ module _ (g : List ℕ) (p : ℕ) where
         ∙ (bit-of-rest (attributes g (getD g p 0)) (mask g (getD g p 0)) a (left .maskFits)
         ∙ sym (ap number (defining-bit 0 a (omega arith) l))))
 
-    pub definings-more : (i x b q u s : ℕ) → i < lengthAt g p → s ≡ collect (8 * (i + 1)) (λ o. definingFrom g p o)
-        → x ≡ getD g (p + 2 + i) 0 → b ≡ mask g x → q ≡ b * 2 ^ (8 * (i + 1)) → u ≡ union q s
+    pub definings-more : (i x m q u s : ℕ) → i < lengthAt g p → s ≡ collect (8 * (i + 1)) (λ o. definingFrom g p o)
+        → x ≡ getD g (p + 2 + i) 0 → m ≡ mask g x → q ≡ m * 2 ^ (8 * (i + 1)) → u ≡ union q s
         → u ≡ collect (8 * (i + 1 + 1)) (λ o. definingFrom g p o)
-    definings-more i x b q u s h k d e m w =
-        w
-        ∙ (ap₂ union m k
-        ∙ block-more (λ o. definingFrom g p o) (i + 1) b
-        (subst (λ (y : ℕ). y < 256) (sym e) (mask-small x (formed-at i x h d)))
+    definings-more i x m q u s h k d e n w =
+        next-block (λ o. definingFrom g p o) (mask g) i x m q u s k d e n w (mask-small x (formed-at i x h d))
         (λ a l.
-        ap (bit a) (e ∙ ap (mask g) (d ∙ sym (symbol-at i)))
-        ∙ (bit-of-mask (attributes g (symbolFrom g p (i + 1))) (mask g (symbolFrom g p (i + 1))) a (shape .formed (i + 1) (omega arith) .maskFits)
-        ∙ sym (ap number (defining-bit (i + 1) a (omega arith) l ∙ inner a)))))
+        bit-of-mask (attributes g (symbolFrom g p (i + 1))) (mask g (symbolFrom g p (i + 1))) a (shape .formed (i + 1) (omega arith) .maskFits)
+        ∙ sym (ap number (defining-bit (i + 1) a (omega arith) l ∙ inner a)))
       where
         inner : (a : ℕ) → (ltb a (attributes g (symbolFrom g p (i + 1)))
             and cond (eqb (i + 1) 0) (not (inherited g (symbolFrom g p (i + 1)) a)) (inherited g (symbolFrom g p (i + 1)) a))
@@ -216,8 +222,4 @@ module _ (g : List ℕ) (p : ℕ) where
     pub definings-end : (n i s : ℕ) → n ≡ lengthAt g p → i ≤ n → n ≤ i → s ≡ collect (8 * (i + 1)) (λ o. definingFrom g p o)
         → s ≡ definingsAt g p
     unfolding definingsAt
-    definings-end n i s e h l k =
-        let q : i ≡ lengthAt g p = omega arith in
-        k
-        ∙ (ap (λ (j : ℕ). collect (8 * (j + 1)) (λ o. definingFrom g p o)) q
-        ∙ sym (collect-rest (8 * (lengthAt g p + 1)) 64 (λ o. definingFrom g p o) (omega (arith, shape .short)) past-defining))
+    definings-end n i s e h l k = last-block (λ o. definingFrom g p o) n i s e h l k past-defining

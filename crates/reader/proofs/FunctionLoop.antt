@@ -1,13 +1,13 @@
 -- The loop over a rule's functions: after k of them the next starts where the definition says, and the set holds what they left undefined.
 -- Assumes nothing.
-use Prim.Native.Nat.{ℕ, zero, suc, _+_, _*_, _^_, _≤_, _<_}
+use Prim.Native.Nat.{ℕ, _+_, _*_, _^_, _≤_, _<_}
 use mathlib.Core.Path.{_≡_, refl, sym, _∙_, ap, ap₂, subst}
-use mathlib.Core.Logic.{_⊎_, ⊎-elim}
-use mathlib.Core.Bool.{Bool, true, false}
+use mathlib.Core.Logic.{⊎-elim}
+use mathlib.Core.Bool.{Bool}
 use mathlib.Core.List.{List}
 use native.Mathlib.Omega.{arith}
 use native.Mathlib.Numerals.{add-one}
-use lib.Dec.{T, leb}
+use lib.Dec.{T}
 use lib.ListN.{getD}
 use Rattle.basics.proofs.TestLaws.{below-or-not}
 use Rattle.bits.specs.Bit.{hasb, remove}
@@ -15,8 +15,8 @@ use Rattle.refusals.specs.declared.Refusal.{Refusal}
 use Rattle.refusals.specs.declared.Refusal.the-variants.{NoOccurrence}
 use Rattle.grammar.specs.declared.Verdict.{Verdict}
 use Rattle.grammar.specs.declared.Verdict.the-variants.{Good, Refused}
-use Rattle.grammar.specs.Table.{argumentWords, functionAt, functionsAt}
-use Rattle.grammar.specs.Verdicts.{_then_, unless, each}
+use Rattle.grammar.specs.Table.{functionAt, functionsAt}
+use Rattle.grammar.specs.Verdicts.{each}
 use Rattle.grammar.proofs.VerdictLaws.{then-first, then-second, unless-passes}
 use Rattle.reader.specs.Places.{nextFunction, functionFrom, undefinedAfter, functionsFrom}
 use Rattle.reader.proofs.Laws.{each-none, each-more, each-stop, each-end, member-past}

@@ -1,8 +1,8 @@
 -- Laws of the verdicts in the form that code meets them: a test that stops answers, and one that passes hands on.
 -- Assumes nothing.
 use Prim.Native.Nat.{ℕ, zero, suc, _+_, _^_, _≤_, _<_}
-use mathlib.Core.Path.{_≡_, refl, sym, _∙_, ap, ap₂, subst}
-use mathlib.Core.Logic.{_⊎_, ⊎-elim}
+use mathlib.Core.Path.{_≡_, refl, sym, _∙_, ap, ap₂}
+use mathlib.Core.Logic.{⊎-elim}
 use mathlib.Core.Bool.{Bool, true, false}
 use mathlib.Core.List.{List}
 use native.Mathlib.Omega.{arith}
@@ -34,6 +34,10 @@ stops v w u n e f = f ∙ sym (ap (λ (x : Verdict). x then w) (sym e ∙ f))
 pub passes : (v w u a : Verdict) → u ≡ v → u ≡ Good → a ≡ w → a ≡ v then w
 unfolding _then_
 passes v w u a e f h = h ∙ sym (ap (λ (x : Verdict). x then w) (sym e ∙ f))
+
+-- no verdict is good and refused
+pub refused-good : (v : Verdict) (n : Refusal) → v ≡ Refused n → v ≡ Good → ⊥
+refused-good v n e f = let z : _≡_ {A = ℕ} 0 1 = cc in omega arith
 
 pub unless-true : (b : Bool) (n : Refusal) → b ≡ true → Good ≡ unless b n
 unfolding unless
@@ -91,6 +95,11 @@ each-stop (suc n) k f u m h e i j =
     (λ q. passes (each n f) (f n) (each k f) u (ap (λ (x : ℕ). each x f) q) e (i ∙ ap f q))
     (below-suc k n h)
 
+pub each-end : (n k : ℕ) (f : ℕ → Verdict) → k ≤ n → n ≤ k → each k f ≡ Good → Good ≡ each n f
+each-end n k f h l e = let q : k ≡ n = omega arith in sym e ∙ ap (λ (x : ℕ). each x f) q
+
+-- ---- two chains whose tests are the same, each as far as the tests before it passed
+
 -- each test of two chains is the same, as far as the tests before it passed
 pub then-same : (v w z : Verdict) → (v ≡ Good → w ≡ z) → v then w ≡ v then z
 unfolding _then_
@@ -107,8 +116,61 @@ each-same (suc n) f h e = ap₂ (λ (v w : Verdict). v then w) (each-same n f h 
 pub ranged-le : (g : List ℕ) (p a b : ℕ) (u : Verdict) → u ≡ ranged g p (leb a b) → u ≡ Good → a ≤ b
 ranged-le g p a b u e h = leb→le a b (ranged-passes g p (leb a b) (sym e ∙ h))
 
-pub ranged-lt : (g : List ℕ) (p a b : ℕ) (u : Verdict) → u ≡ ranged g p (ltb a b) → u ≡ Good → a < b
-ranged-lt g p a b u e h = ltb→lt a b (ranged-passes g p (ltb a b) (sym e ∙ h))
+-- ---- a test of what the code holds is the test of what the table holds
+
+pub zero-of : (a b : ℕ) → a ≡ b → eqb a 0 ≡ eqb b 0
+zero-of a b e = ap (λ (x : ℕ). eqb x 0) e
+
+pub ltb-of : (a b x y : ℕ) → a ≡ x → b ≡ y → ltb a b ≡ ltb x y
+ltb-of a b x y d e = ap₂ ltb d e
+
+pub leb-of : (a b x : ℕ) → a ≡ x → leb a b ≡ leb x b
+leb-of a b x e = ap (λ (n : ℕ). leb n b) e
+
+pub mask-of : (m k n a b : ℕ) → a ≡ m → b ≡ 2 ^ n → n ≡ k → ltb a b ≡ ltb m (2 ^ k)
+mask-of m k n a b d e f = ap₂ ltb d (e ∙ ap (λ (x : ℕ). 2 ^ x) f)
+
+pub nonterminal-of : (g : List ℕ) (x y : ℕ) (u : Bool) → u ≡ nonterminal g x → x ≡ y → u ≡ nonterminal g y
+nonterminal-of g x y u e d = e ∙ ap (nonterminal g) d
+
+pub class-of : (g : List ℕ) (x y : ℕ) (u : Bool)
+    → u ≡ (nonterminal g x and eqb (mask g x) 0) → x ≡ y → u ≡ (nonterminal g y and eqb (mask g y) 0)
+class-of g x y u e d = e ∙ ap (λ (z : ℕ). nonterminal g z and eqb (mask g z) 0) d
+
+pub member-of : (s x y : ℕ) (u : Bool) → u ≡ hasb x s → x ≡ y → u ≡ hasb y s
+member-of s x y u e d = e ∙ ap (λ (z : ℕ). hasb z s) d
+
+pub fits-of : (b : Bool) (s x y : ℕ) (u : Bool) → u ≡ (b or hasb x s) → x ≡ y → u ≡ (b or hasb y s)
+fits-of b s x y u e d = e ∙ ap (λ (z : ℕ). b or hasb z s) d
+
+pub between-of : (l h x y : ℕ) (u : Bool) → u ≡ (leb l x and leb x h) → x ≡ y → u ≡ (leb l y and leb y h)
+between-of l h x y u e d = e ∙ ap (λ (n : ℕ). leb l n and leb n h) d
+
+pub ranged-of : (g : List ℕ) (p : ℕ) (a b : Bool) (v : Verdict) → v ≡ ranged g p a → a ≡ b → v ≡ ranged g p b
+ranged-of g p a b v e d = e ∙ ap (ranged g p) d
+
+pub unless-of : (a b : Bool) (n : Refusal) (v : Verdict) → v ≡ unless a n → a ≡ b → v ≡ unless b n
+unless-of a b n v e d = e ∙ ap (λ (x : Bool). unless x n) d
+
+pub each-of : (f : ℕ → Verdict) (n m : ℕ) (v : Verdict) → v ≡ each n f → n ≡ m → v ≡ each m f
+each-of f n m v e d = e ∙ ap (λ (k : ℕ). each k f) d
+
+-- a right side's tests and a count's test, by the numbers that the code holds
+pub right-of : (g : List ℕ) (p n m : ℕ) (v : Verdict) → v ≡ each n (λ i. symbolTest g (p + i)) → n ≡ m → v ≡ each m (λ i. symbolTest g (p + i))
+right-of g p n m v e d = e ∙ ap (λ (k : ℕ). each k (λ i. symbolTest g (p + i))) d
+
+pub count-of : (g : List ℕ) (p n k : ℕ) (v : Verdict) → v ≡ ranged g (p + 2 + n) (leb k 64) → n ≡ lengthAt g p → k ≡ functionsAt g p
+    → v ≡ ranged g (p + 2 + lengthAt g p) (leb (functionsAt g p) 64)
+count-of g p n k v e d f = e ∙ ap₂ (λ (m c : ℕ). ranged g (p + 2 + m) (leb c 64)) d f
+
+-- the chain of a function's arguments, by the operation and the count that the code holds
+pub arguments-are : (g : List ℕ) (f op n s : ℕ) (v : Verdict) → op ≡ getD g (f + 1) 0 → n ≡ argumentWords op
+    → v ≡ each n (λ i. argumentFrom g (f + 2 + i) (eqb op 0) s) → v ≡ argumentsFrom g f s
+unfolding argumentsFrom
+arguments-are g f op n s v d e h =
+    h
+    ∙ (ap (λ (m : ℕ). each m (λ i. argumentFrom g (f + 2 + i) (eqb op 0) s)) e
+    ∙ ap (λ (o : ℕ). each (argumentWords o) (λ i. argumentFrom g (f + 2 + i) (eqb o 0) s)) d)
 
 -- ---- views
 
@@ -126,66 +188,3 @@ symbol-right g p (suc i) v d h =
 -- past the width a set has no member
 pub member-past : (o s : ℕ) → s < 2 ^ 64 → 64 ≤ o → false ≡ hasb o s
 member-past o s h l = sym (bit-lacks o s (bit-above 64 o s h l))
-
--- ---- tests of equal numbers
-
-pub zero-of : (a b : ℕ) → a ≡ b → eqb a 0 ≡ eqb b 0
-zero-of a b e = ap (λ (x : ℕ). eqb x 0) e
-
-pub ltb-of : (a b x y : ℕ) → a ≡ x → b ≡ y → ltb a b ≡ ltb x y
-ltb-of a b x y d e = ap₂ ltb d e
-
-pub leb-of : (a b x : ℕ) → a ≡ x → leb a b ≡ leb x b
-leb-of a b x e = ap (λ (n : ℕ). leb n b) e
-
-pub ranged-of : (g : List ℕ) (p : ℕ) (a b : Bool) (v : Verdict) → v ≡ ranged g p a → a ≡ b → v ≡ ranged g p b
-ranged-of g p a b v e d = e ∙ ap (ranged g p) d
-
-pub unless-of : (a b : Bool) (n : Refusal) (v : Verdict) → v ≡ unless a n → a ≡ b → v ≡ unless b n
-unless-of a b n v e d = e ∙ ap (λ (x : Bool). unless x n) d
-
-pub between-of : (l h x y : ℕ) (u : Bool) → u ≡ (leb l x and leb x h) → x ≡ y → u ≡ (leb l y and leb y h)
-between-of l h x y u e d = e ∙ ap (λ (n : ℕ). leb l n and leb n h) d
-
-pub nonterminal-of : (g : List ℕ) (x y : ℕ) (u : Bool) → u ≡ nonterminal g x → x ≡ y → u ≡ nonterminal g y
-nonterminal-of g x y u e d = e ∙ ap (nonterminal g) d
-
-pub class-of : (g : List ℕ) (x y : ℕ) (u : Bool)
-    → u ≡ (nonterminal g x and eqb (mask g x) 0) → x ≡ y → u ≡ (nonterminal g y and eqb (mask g y) 0)
-class-of g x y u e d = e ∙ ap (λ (z : ℕ). nonterminal g z and eqb (mask g z) 0) d
-
-pub fits-of : (b : Bool) (s x y : ℕ) (u : Bool) → u ≡ (b or hasb x s) → x ≡ y → u ≡ (b or hasb y s)
-fits-of b s x y u e d = e ∙ ap (λ (z : ℕ). b or hasb z s) d
-
-pub member-of : (s x y : ℕ) (u : Bool) → u ≡ hasb x s → x ≡ y → u ≡ hasb y s
-member-of s x y u e d = e ∙ ap (λ (z : ℕ). hasb z s) d
-
-pub each-end : (n k : ℕ) (f : ℕ → Verdict) → k ≤ n → n ≤ k → each k f ≡ Good → Good ≡ each n f
-each-end n k f h l e = let q : k ≡ n = omega arith in sym e ∙ ap (λ (x : ℕ). each x f) q
-
--- the chain of a function's arguments, by the operation and the count that the code holds
-pub arguments-are : (g : List ℕ) (f op n s : ℕ) (v : Verdict) → op ≡ getD g (f + 1) 0 → n ≡ argumentWords op
-    → v ≡ each n (λ i. argumentFrom g (f + 2 + i) (eqb op 0) s) → v ≡ argumentsFrom g f s
-unfolding argumentsFrom
-arguments-are g f op n s v d e h =
-    h
-    ∙ (ap (λ (m : ℕ). each m (λ i. argumentFrom g (f + 2 + i) (eqb op 0) s)) e
-    ∙ ap (λ (o : ℕ). each (argumentWords o) (λ i. argumentFrom g (f + 2 + i) (eqb o 0) s)) d)
-
-pub mask-of : (m k n a b : ℕ) → a ≡ m → b ≡ 2 ^ n → n ≡ k → ltb a b ≡ ltb m (2 ^ k)
-mask-of m k n a b d e f = ap₂ ltb d (e ∙ ap (λ (x : ℕ). 2 ^ x) f)
-
--- no verdict is good and refused
-pub refused-good : (v : Verdict) (n : Refusal) → v ≡ Refused n → v ≡ Good → ⊥
-refused-good v n e f = let z : _≡_ {A = ℕ} 0 1 = cc in omega arith
-
--- a right side's tests and a count's test, by the numbers that the code holds
-pub right-of : (g : List ℕ) (p n m : ℕ) (v : Verdict) → v ≡ each n (λ i. symbolTest g (p + i)) → n ≡ m → v ≡ each m (λ i. symbolTest g (p + i))
-right-of g p n m v e d = e ∙ ap (λ (k : ℕ). each k (λ i. symbolTest g (p + i))) d
-
-pub count-of : (g : List ℕ) (p n k : ℕ) (v : Verdict) → v ≡ ranged g (p + 2 + n) (leb k 64) → n ≡ lengthAt g p → k ≡ functionsAt g p
-    → v ≡ ranged g (p + 2 + lengthAt g p) (leb (functionsAt g p) 64)
-count-of g p n k v e d f = e ∙ ap₂ (λ (m c : ℕ). ranged g (p + 2 + m) (leb c 64)) d f
-
-pub each-of : (f : ℕ → Verdict) (n m : ℕ) (v : Verdict) → v ≡ each n f → n ≡ m → v ≡ each m f
-each-of f n m v e d = e ∙ ap (λ (k : ℕ). each k f) d

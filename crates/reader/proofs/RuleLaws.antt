@@ -1,35 +1,22 @@
 -- A rule that is read: its symbols are well formed once its right side passed, and what it hands on follows from its functions.
 -- Assumes nothing.
-use Prim.Native.Nat.{ℕ, zero, suc, _+_, _*_, _≤_, _<_}
-use mathlib.Core.Path.{_≡_, refl, sym, _∙_, ap, ap₂, subst}
-use mathlib.Core.Bool.{Bool}
+use Prim.Native.Nat.{ℕ, zero, suc, _+_, _≤_, _<_}
+use mathlib.Core.Path.{_≡_, sym, _∙_, ap, ap₂}
 use mathlib.Core.List.{List}
 use native.Mathlib.Omega.{arith}
 use lib.Dec.{leb, ltb, ltb→lt}
-use lib.ListN.{getD}
 use Rattle.basics.specs.Lists.{word}
 use Rattle.refusals.specs.declared.Refusal.{Refusal}
 use Rattle.grammar.specs.declared.Verdict.{Verdict}
 use Rattle.grammar.specs.declared.Verdict.the-variants.{Good, Refused}
 use Rattle.grammar.specs.Table.{symbols, lengthAt, functionAt, functionsAt}
-use Rattle.grammar.specs.Verdicts.{_then_, each}
+use Rattle.grammar.specs.Verdicts.{each}
 use Rattle.grammar.specs.Reading.{ranged}
 use Rattle.grammar.specs.WellFormed.{SymbolFormed}
 use Rattle.grammar.proofs.VerdictLaws.{then-first, each-at}
 use Rattle.grammar.proofs.Accepted.{ranged-passes}
 use Rattle.grammar.proofs.Places.{functions-bound}
-use Rattle.reader.specs.Places.{
-  symbolFrom,
-  occurrencesAt,
-  definingsAt,
-  Shaped,
-  Symbols,
-  leftFrom,
-  symbolTest,
-  undefinedAfter,
-  functionsFrom,
-  Handed,
-}
+use Rattle.reader.specs.Places.{symbolFrom, occurrencesAt, definingsAt, Shaped, Symbols, leftFrom, symbolTest, undefinedAfter, functionsFrom, Handed}
 use Rattle.reader.proofs.Laws.{ranged-le, refused-good}
 
 -- a left symbol that passes is a symbol of the table

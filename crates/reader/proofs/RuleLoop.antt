@@ -1,23 +1,23 @@
 -- The loop over the rules: after r of them the next starts where the definition says, the offsets of those before it stand in their places,
 -- and the set says whether the rule just read is complete. Assumes nothing.
-use Prim.Native.Nat.{ℕ, zero, suc, _+_, _-_, _*_, _≤_, _<_}
-use mathlib.Core.Path.{_≡_, refl, sym, _∙_, ap, ap₂, subst}
-use mathlib.Core.Bool.{Bool, true, false}
-use mathlib.Core.List.{List, [], _∷_, _++_}
+use Prim.Native.Nat.{ℕ, suc, _+_, _-_, _*_, _≤_, _<_}
+use mathlib.Core.Path.{_≡_, refl, sym, _∙_, ap, ap₂}
+use mathlib.Core.Bool.{Bool}
+use mathlib.Core.List.{List, [], _++_}
 use native.Mathlib.Omega.{arith}
 use native.Mathlib.Numerals.{add-one}
 use lib.Dec.{leb, eqb}
-use lib.ListN.{length, getD, set, replicate}
+use lib.ListN.{length, set, replicate}
 use lib.Seq.{set-at, append-snoc}
-use Rattle.basics.specs.Lists.{word, tabulate, padded}
+use Rattle.basics.specs.Lists.{tabulate, padded}
 use Rattle.basics.proofs.ListLaws.{length-tabulate}
 use Rattle.refusals.specs.declared.Refusal.{Refusal}
 use Rattle.refusals.specs.declared.Refusal.the-variants.{Undefined, LeftOver}
 use Rattle.grammar.specs.declared.Verdict.{Verdict}
 use Rattle.grammar.specs.declared.Verdict.the-variants.{Good, Refused}
-use Rattle.grammar.specs.Table.{symbols, rules, functionAt, functionsAt, ruleAt}
+use Rattle.grammar.specs.Table.{symbols, rules, ruleAt}
 use Rattle.grammar.specs.Verdicts.{_then_, unless, each}
-use Rattle.grammar.specs.Reading.{header, symbolFault, startClass, complete, ruleBefore, ruleFault, leftOver, readTable}
+use Rattle.grammar.specs.Reading.{header, symbolFault, startClass, ruleBefore, ruleFault, leftOver, readTable}
 use Rattle.grammar.proofs.VerdictLaws.{each-at}
 use Rattle.grammar.proofs.Accepted.{symbol-formed, header-symbols, header-rules}
 use Rattle.reader.specs.Offsets.{offsetsFor}
@@ -28,12 +28,12 @@ use Rattle.reader.proofs.Same.{complete-same, rule-same}
 -- ---- the table of offsets
 
 pub padded-none : (n : ℕ) → padded n [] ≡ replicate n 0
-unfolding padded length
+unfolding padded
 padded-none n = let z : n - 0 ≡ n = omega arith in ap (λ (k : ℕ). replicate k 0) z
 
 -- one more entry goes into the first free place
 pub padded-more : (n r : ℕ) (f : ℕ → ℕ) → r < n → set (padded n (tabulate r f)) r (f r) ≡ padded n (tabulate (r + 1) f)
-unfolding padded tabulate replicate
+unfolding padded tabulate
 padded-more n r f h =
     let free : n - length (tabulate r f) ≡ suc (n - (r + 1)) = omega (arith, length-tabulate r f) in
     let rest : n - (r + 1) ≡ n - length (tabulate (suc r) f) = omega (arith, length-tabulate (suc r) f) in

@@ -1,81 +1,29 @@
 -- What is said by place is what grammar's definitions say by number: rule r starts at word ruleAt g r, and a set has a member where its test passes.
 -- Assumes nothing.
-use Prim.Native.Nat.{ℕ, zero, suc, _+_, _*_, _^_, _≤_, _<_}
-use mathlib.Core.Path.{_≡_, refl, sym, _∙_, ap, ap₂, subst, fun-ext}
-use mathlib.Core.Logic.{_⊎_, ⊎-elim}
+use Prim.Native.Nat.{ℕ, zero, suc, _+_, _^_, _≤_, _<_}
+use mathlib.Core.Path.{_≡_, refl, sym, _∙_, ap, ap₂, fun-ext}
+use mathlib.Core.Logic.{⊎-elim}
 use mathlib.Core.Bool.{Bool, true, false, cond, not}
 use mathlib.Core.List.{List}
 use native.Mathlib.Omega.{arith}
 use lib.Dec.{T, leb, ltb, eqb, leb→le, eqb→eq}
 use lib.Pow.{pow-pos}
 use borrow.Author.Tests.{eq-eqb, ne-eqb}
-use Rattle.basics.specs.Tests.{_and_, _or_, _implies_, some, all}
+use Rattle.basics.specs.Tests.{_and_, _or_, _implies_, some}
 use Rattle.basics.specs.Lists.{word}
-use Rattle.basics.proofs.TestLaws.{all-at, all-intro, same-or-not, same-test, below-or-not, eq-T, T-true, true-T}
+use Rattle.basics.proofs.TestLaws.{all-at, all-intro, same-or-not, same-test, below-or-not, eq-T}
 use Rattle.bits.specs.Bit.{bit, number, hasb, collect, remove}
-use Rattle.bits.proofs.BitLaws.{bit-cases, bit-has, bit-lacks, bit-ext, bit-of-zero, has-bit}
+use Rattle.bits.proofs.BitLaws.{bit-cases, bit-has, bit-lacks, bit-ext, bit-of-zero}
 use Rattle.bits.proofs.CollectLaws.{bit-collect, bit-collect-above, collect-lt}
 use Rattle.bits.proofs.SetLaws.{bit-remove-same, bit-remove-other, remove-lt}
 use Rattle.refusals.specs.declared.Refusal.the-variants.{NoOccurrence, NotDefining, Undefined}
 use Rattle.grammar.specs.declared.Verdict.{Verdict}
-use Rattle.grammar.specs.declared.Verdict.the-variants.{Good}
 use Rattle.grammar.specs.Limits.{longestRight, mostFunctions, lastOperation}
-use Rattle.grammar.specs.Table.{
-  symbols,
-  attributes,
-  inherited,
-  argumentWords,
-  isConstant,
-  lengthAt,
-  functionAt,
-  functionsAt,
-  functionOf,
-  functions,
-  ruleAt,
-  rightLength,
-  symbolOf,
-  target,
-  operation,
-  argument,
-  occurrence,
-  inheritedAt,
-  definingClass,
-  defining,
-  position,
-  attribute,
-}
+use Rattle.grammar.specs.Table.{symbols, attributes, inherited, argumentWords, isConstant, lengthAt, functionAt, functionsAt, functionOf, functions, ruleAt, rightLength, symbolOf, target, operation, argument, occurrence, inheritedAt, definingClass, defining, position, attribute}
 use Rattle.grammar.specs.Verdicts.{_then_, unless, each}
-use Rattle.grammar.specs.Reading.{
-  present,
-  ranged,
-  leftFault,
-  definedBelow,
-  argumentFault,
-  functionFault,
-  bodyFault,
-  complete,
-  ruleBefore,
-  ruleFault,
-}
+use Rattle.grammar.specs.Reading.{present, ranged, leftFault, definedBelow, argumentFault, functionFault, bodyFault, complete, ruleBefore, ruleFault}
 use Rattle.grammar.proofs.Accepted.{ranged-passes}
-use Rattle.reader.specs.Places.{
-  symbolFrom,
-  occurrenceFrom,
-  definingFrom,
-  occurrencesAt,
-  definingsAt,
-  leftFrom,
-  symbolTest,
-  argumentFrom,
-  argumentsFrom,
-  functionFrom,
-  undefinedAfter,
-  functionsFrom,
-  bodyFrom,
-  ruleFrom,
-  nextRule,
-  leaves,
-}
+use Rattle.reader.specs.Places.{symbolFrom, occurrenceFrom, definingFrom, occurrencesAt, definingsAt, leftFrom, symbolTest, argumentFrom, argumentsFrom, functionFrom, undefinedAfter, functionsFrom, bodyFrom, ruleFrom, leaves}
 use Rattle.reader.proofs.Laws.{then-same, each-same}
 use Rattle.reader.proofs.Blocks.{past, past-defining}
 

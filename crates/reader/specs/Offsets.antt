@@ -1,9 +1,7 @@
 -- What reading hands on besides its verdict: where each rule starts.
 -- Assumes nothing.
 use Prim.Native.Nat.{ℕ}
-use mathlib.Core.Bool.{Bool}
 use mathlib.Core.List.{List}
-use lib.Dec.{T}
 use lib.ListN.{replicate}
 use Rattle.basics.specs.Lists.{tabulate, padded}
 use Rattle.grammar.specs.declared.Verdict.{Verdict}

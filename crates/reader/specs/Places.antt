@@ -12,19 +12,7 @@ use Rattle.refusals.specs.declared.Refusal.the-variants.{WrongClass, NoOccurren
 use Rattle.grammar.specs.declared.Verdict.{Verdict}
 use Rattle.grammar.specs.declared.Verdict.the-variants.{Good}
 use Rattle.grammar.specs.Limits.{longestRight, mostFunctions, lastOperation, mostOccurrences}
-use Rattle.grammar.specs.Table.{
-  symbols,
-  attributes,
-  nonterminal,
-  inherited,
-  argumentWords,
-  isConstant,
-  lengthAt,
-  functionAt,
-  functionsAt,
-  position,
-  attribute,
-}
+use Rattle.grammar.specs.Table.{symbols, attributes, nonterminal, inherited, argumentWords, isConstant, lengthAt, functionAt, functionsAt, position, attribute}
 use Rattle.grammar.specs.Verdicts.{_then_, unless, each}
 use Rattle.grammar.specs.Reading.{present, ranged}
 use Rattle.grammar.specs.WellFormed.{SymbolFormed}

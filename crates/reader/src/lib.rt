@@ -411,6 +411,17 @@ struct Rule {
     undefined: u64,
 }
 
+// A refused rule hands on nothing.
+fn stopped(verdict: Verdict) -> Rule
+    ensures { λ r. ⌜ r .verdict ≡ verdict ⌝ }
+{
+    Rule {
+        verdict,
+        next: 0,
+        undefined: 0,
+    }
+}
+
 // The functions of the rule at word p.
 fn functions_fault(words: &[u16], p: usize, occurrences: u64, defining: u64) -> Rule
     requires { ⌜ p < 65536 ⌝ }
@@ -425,11 +436,7 @@ fn functions_fault(words: &[u16], p: usize, occurrences: u64, defining: u64) -> 
     for k in 0..count {
         let fault = function_fault(words, f, occurrences, undefined);
         let Verdict::Good = fault else {
-            return Rule {
-                verdict: fault,
-                next: f,
-                undefined,
-            };
+            return stopped(fault);
         };
         undefined = bits::without(undefined, word(words, f));
         f = next_function(words, f);
@@ -452,27 +459,15 @@ fn body_fault(words: &[u16], p: usize) -> Rule
     let n = right_length(words, p);
     let short = ranged(words, p + 1, n <= 7);
     let Verdict::Good = short else {
-        return Rule {
-            verdict: short,
-            next: p,
-            undefined: 0,
-        };
+        return stopped(short);
     };
     let right = right_fault(words, p + 2, n);
     let Verdict::Good = right else {
-        return Rule {
-            verdict: right,
-            next: p,
-            undefined: 0,
-        };
+        return stopped(right);
     };
     let few = ranged(words, p + 2 + n, function_count(words, p) <= 64);
     let Verdict::Good = few else {
-        return Rule {
-            verdict: few,
-            next: p,
-            undefined: 0,
-        };
+        return stopped(few);
     };
     functions_fault(words, p, occurrence_set(words, p), defining_set(words, p))
 }
@@ -493,19 +488,11 @@ fn rule_fault(words: &[u16], p: usize, undefined: u64) -> Rule
 {
     let left = left_fault(words, p);
     let Verdict::Good = left else {
-        return Rule {
-            verdict: left,
-            next: p,
-            undefined: 0,
-        };
+        return stopped(left);
     };
     let before = rule_before(undefined, p);
     let Verdict::Good = before else {
-        return Rule {
-            verdict: before,
-            next: p,
-            undefined: 0,
-        };
+        return stopped(before);
     };
     body_fault(words, p)
 }
@@ -523,6 +510,7 @@ pub struct Reading {
     pub offsets: [u16; 64],
 }
 
+// A refused table has no offsets.
 fn refused(verdict: Verdict) -> Reading
     ensures { λ r. ⌜ r .verdict ≡ verdict ⌝ }
     ensures { λ r. ⌜ r .offsets ≡ replicate 64 0 ⌝ }
@@ -533,18 +521,19 @@ fn refused(verdict: Verdict) -> Reading
     }
 }
 
+// Reads the words of a table in one walk. An offset is kept for each rule, so that later code need not look for it.
 pub fn read(words: &[u16]) -> Reading
     ensures { λ r. ⌜ r .verdict ≡ reading.readTable (now (words .entry)) ⌝ }
     ensures { λ r. ⌜ r .offsets ≡ offsetsFor (now (words .entry)) (reading.readTable (now (words .entry))) ⌝ }
 {
-    let top = header(words);
-    let Verdict::Good = top else {
-        return refused(top);
+    let head = header(words);
+    let Verdict::Good = head else {
+        return refused(head);
     };
     let symbols = word(words, 0);
-    let bad = symbols_fault(words, symbols);
-    let Verdict::Good = bad else {
-        return refused(bad);
+    let symbol = symbols_fault(words, symbols);
+    let Verdict::Good = symbol else {
+        return refused(symbol);
     };
     let start = start_class(words);
     let Verdict::Good = start else {

@@ -10,7 +10,7 @@ use Rattle.grammar.specs.declared.Verdict.{Verdict}
 use Rattle.grammar.specs.declared.Verdict.the-variants.{Good, Refused}
 use Rattle.trees.specs.Tree.{nodes, ruleOf, appliesRule}
 use Rattle.trees.specs.Checking.{checkTree}
-use Rattle.planning.specs.Answer.{Outcome, untouched, circularIdp, unordered, accepted, outcome, acceptedPlan}
+use Rattle.planning.specs.Answer.{Outcome, untouched, circularIdp, unordered, accepted, outcome}
 use Rattle.running.specs.declared.Ran as R
 use Rattle.running.specs.Sequences.{sequenceLength}
 use Rattle.running.specs.Automaton.{Machine, started, step}
@@ -51,17 +51,17 @@ totalUpTo p t (suc n) = totalUpTo p t n + cond (appliesRule t n) (sequenceLength
 unfoldable pub total : List ℕ → List ℕ → ℕ
 total p t = totalUpTo p t (nodes t)
 
--- What a run answers and leaves in the values, after planning came so far and the tree's verdict is this.
-unfoldable pub runAnswer : List ℕ → List ℕ → Outcome → Verdict → List ℤ → ℕ → R.Ran
-runAnswer g t (untouched n) v values budget = R.the-variants.Refused n
-runAnswer g t (circularIdp n) v values budget = R.the-variants.Refused n
-runAnswer g t (unordered n) v values budget = R.the-variants.Refused n
-runAnswer g t accepted Good values budget = ran g (acceptedPlan g) t values budget .answer
-runAnswer g t accepted (Refused n) values budget = R.the-variants.Refused n
+-- What a run answers and leaves in the values, where p is the plan as planning left it, planning came so far and the tree's verdict is this.
+unfoldable pub runAnswer : List ℕ → List ℕ → List ℕ → Outcome → Verdict → List ℤ → ℕ → R.Ran
+runAnswer g p t (untouched n) v values budget = R.the-variants.Refused n
+runAnswer g p t (circularIdp n) v values budget = R.the-variants.Refused n
+runAnswer g p t (unordered n) v values budget = R.the-variants.Refused n
+runAnswer g p t accepted Good values budget = ran g p t values budget .answer
+runAnswer g p t accepted (Refused n) values budget = R.the-variants.Refused n
 
-unfoldable pub valuesAfter : List ℕ → List ℕ → Outcome → Verdict → List ℤ → ℕ → List ℤ
-valuesAfter g t (untouched n) v values budget = values
-valuesAfter g t (circularIdp n) v values budget = values
-valuesAfter g t (unordered n) v values budget = values
-valuesAfter g t accepted Good values budget = ran g (acceptedPlan g) t values budget .machine .values
-valuesAfter g t accepted (Refused n) values budget = values
+unfoldable pub valuesAfter : List ℕ → List ℕ → List ℕ → Outcome → Verdict → List ℤ → ℕ → List ℤ
+valuesAfter g p t (untouched n) v values budget = values
+valuesAfter g p t (circularIdp n) v values budget = values
+valuesAfter g p t (unordered n) v values budget = values
+valuesAfter g p t accepted Good values budget = ran g p t values budget .machine .values
+valuesAfter g p t accepted (Refused n) values budget = values

@@ -129,15 +129,15 @@ module _ (g ids s : List ℕ) (r : ℕ) where
   depth-most o = count-le mostOccurrences (λ p. edpPath g ids s r p o)
 
   -- an arc beside another attribute of one nonterminal
-  record BesideArc (a b : ℕ) : Type 0 where
-    source : T (occurrence g r a)
-    goal : T (occurrence g r b)
-    same : position a ≡ position b
-    nonterminalThere : T (nonterminal g (symbolOf g r (position a)))
-    arc : T (arcIn ids (symbolOf g r (position a)) (attribute a) (attribute b))
+  pub record BesideArc (a b : ℕ) : Type 0 where
+    pub source : T (occurrence g r a)
+    pub goal : T (occurrence g r b)
+    pub same : position a ≡ position b
+    pub nonterminalThere : T (nonterminal g (symbolOf g r (position a)))
+    pub arc : T (arcIn ids (symbolOf g r (position a)) (attribute a) (attribute b))
         ⊎ (setNumber s (symbolOf g r (position a)) (attribute b) < setNumber s (symbolOf g r (position a)) (attribute a))
 
-  beside-find : (a b : ℕ) → T (besideArc g ids s r a b) → BesideArc a b
+  pub beside-find : (a b : ℕ) → T (besideArc g ids s r a b) → BesideArc a b
   unfolding besideArc
   beside-find a b t =
       let u = and-right _ _ t in
@@ -161,7 +161,7 @@ module _ (g ids s : List ℕ) (r : ℕ) where
     pub fits : (o : ℕ) → T (occurrence g r o) → o < mostOccurrences
     fits o t = occurrence-fits g r o (h .formed .rule r (counts-below g r (h .counts))) t
 
-    symbol-fits : (o : ℕ) → T (occurrence g r o) → symbolOf g r (position o) < symbols g
+    pub symbol-fits : (o : ℕ) → T (occurrence g r o) → symbolOf g r (position o) < symbols g
     symbol-fits o t = h .formed .rule r (counts-below g r (h .counts)) .symbolsFit (position o) (occurs-inside g r o t)
 
     -- the left side is a nonterminal
@@ -174,13 +174,13 @@ module _ (g ids s : List ℕ) (r : ℕ) where
     arc-starts a b t =
         ⊎-elim (λ u. dp-argument g (h .formed) r a b (h .counts) (dp-sound g r a b u)) (λ u. beside-find a b u .source) (or-cases _ _ t)
 
-    arc-beside : (a b : ℕ) → T (edp g ids s r a b) → (T (defining g r b) → ⊥) → BesideArc a b
+    pub arc-beside : (a b : ℕ) → T (edp g ids s r a b) → (T (defining g r b) → ⊥) → BesideArc a b
     unfolding edp
     arc-beside a b t n =
         ⊎-elim (λ u. absurd (n (dp-target g (h .formed) r a b (h .counts) (dp-sound g r a b u)))) (λ u. beside-find a b u) (or-cases _ _ t)
 
     -- an arc beside does not lead to a higher set
-    beside-down : (a b : ℕ) → BesideArc a b → setAt b ≤ setAt a
+    pub beside-down : (a b : ℕ) → BesideArc a b → setAt b ≤ setAt a
     unfolding setAt
     beside-down a b w =
         subst (λ (i : ℕ). setNumber s (symbolOf g r i) (attribute b) ≤ setNumber s (symbolOf g r (position a)) (attribute a)) (w .same)
@@ -222,7 +222,7 @@ module _ (g ids s : List ℕ) (r : ℕ) where
             omega (arith, w .depthIs))
         (λ q. omega (arith, depth-most o)) (below-or-not (low i k) 65)
 
-    placed-at : (o : ℕ) → T (occurrence g r o) → T (nonterminal g (symbolOf g r (position o)))
+    pub placed-at : (o : ℕ) → T (occurrence g r o) → T (nonterminal g (symbolOf g r (position o)))
         → Placed g s (symbolOf g r (position o)) (attribute o)
     placed-at o t n = h .placed (symbolOf g r (position o)) (attribute o) (symbol-fits o t) n (occurs-attribute g r o t)
 
@@ -231,17 +231,17 @@ module _ (g ids s : List ℕ) (r : ℕ) where
     unfolding setAt
     set-low o t n = placed-at o t n .low
 
-    set-even : (o : ℕ) → T (occurrence g r o) → T (nonterminal g (symbolOf g r (position o))) → T (inheritedAt g r o) → setAt o % 2 ≡ 0
+    pub set-even : (o : ℕ) → T (occurrence g r o) → T (nonterminal g (symbolOf g r (position o))) → T (inheritedAt g r o) → setAt o % 2 ≡ 0
     unfolding setAt inheritedAt
     set-even o t n c = inherited-even g (symbolOf g r (position o)) _ (attribute o) (placed-at o t n .class) c
 
-    set-odd : (o : ℕ) → T (occurrence g r o) → T (nonterminal g (symbolOf g r (position o))) → T (not (inheritedAt g r o))
+    pub set-odd : (o : ℕ) → T (occurrence g r o) → T (nonterminal g (symbolOf g r (position o))) → T (not (inheritedAt g r o))
         → setAt o % 2 ≡ 1
     unfolding setAt inheritedAt
     set-odd o t n c = synthesized-odd g (symbolOf g r (position o)) _ (attribute o) (placed-at o t n .class) c
 
     -- the set of an attribute of visit n
-    set-inherited : (i n o : ℕ) → OfVisit g s r i n o → T (nonterminal g (symbolOf g r i)) → T (inheritedAt g r o)
+    pub set-inherited : (i n o : ℕ) → OfVisit g s r i n o → T (nonterminal g (symbolOf g r i)) → T (inheritedAt g r o)
         → setAt o ≡ 2 * (visits s (symbolOf g r i) + 1 - n)
     unfolding setAt inheritedAt visitAt
     set-inherited i n o w m c =
@@ -249,7 +249,7 @@ module _ (g ids s : List ℕ) (r : ℕ) where
         inherited-set s (symbolOf g r (position o)) g (attribute o) n (omega arith) (placed-at o (w .occurs) there .class) c (w .visitIs)
         ∙ ap (λ (j : ℕ). 2 * (visits s (symbolOf g r j) + 1 - n)) (w .stands)
 
-    set-synthesized : (i n o : ℕ) → OfVisit g s r i n o → T (nonterminal g (symbolOf g r i)) → T (not (inheritedAt g r o))
+    pub set-synthesized : (i n o : ℕ) → OfVisit g s r i n o → T (nonterminal g (symbolOf g r i)) → T (not (inheritedAt g r o))
         → setAt o ≡ 2 * (visits s (symbolOf g r i) + 1 - n) - 1
     unfolding setAt inheritedAt visitAt
     set-synthesized i n o w m c =

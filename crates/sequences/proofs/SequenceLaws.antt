@@ -109,7 +109,7 @@ module _ (g ids s : List ℕ) (r : ℕ) where
     defining-fits : (o : ℕ) → T (defining g r o) → o < mostOccurrences
     defining-fits o t = fits g ids s r h o (defining-occurs g r o t)
 
-    compute-stands : (o : ℕ) → T (defining g r o) → T (isAction g s r o)
+    pub compute-stands : (o : ℕ) → T (defining g r o) → T (isAction g s r o)
     compute-stands o t = belongs-action g s r o (compute o) (decode-compute o (defining-fits o t)) (compute-belongs g s r o t)
 
     -- "each visit follows the computes that it hands over"
@@ -130,19 +130,19 @@ module _ (g ids s : List ℕ) (r : ℕ) where
         (leave-after-compute g ids s r (actionAt j) n o d (fits g ids s r h o (w .0 .occurs)) t)
 
     module _ (five : (x : ℕ) → visits s x ≤ 5) where
-      visit-number : (i n : ℕ) → ChildVisit g s r i n → decode (numberOf (visit i n)) ≡ visit i n
+      pub visit-number : (i n : ℕ) → ChildVisit g s r i n → decode (numberOf (visit i n)) ≡ visit i n
       visit-number i n c =
           decode-number (visit i n)
           (omega (arith, c .inside, h .formed .rule r (counts-below g r (h .counts)) .lengthFits), c .first,
           omega (arith, c .last, five (symbolOf g r i)))
 
-      leave-number : (n : ℕ) → LeftLeave g s r n → decode (numberOf (leave n)) ≡ leave n
+      pub leave-number : (n : ℕ) → LeftLeave g s r n → decode (numberOf (leave n)) ≡ leave n
       leave-number n c = decode-number (leave n) (c .first, omega (arith, c .last, five (symbolOf g r 0)))
 
-      visit-stands : (i n : ℕ) → ChildVisit g s r i n → T (isAction g s r (numberOf (visit i n)))
+      pub visit-stands : (i n : ℕ) → ChildVisit g s r i n → T (isAction g s r (numberOf (visit i n)))
       visit-stands i n c = belongs-action g s r (numberOf (visit i n)) (visit i n) (visit-number i n c) (visit-belongs g s r i n c)
 
-      leave-stands : (n : ℕ) → LeftLeave g s r n → T (isAction g s r (numberOf (leave n)))
+      pub leave-stands : (n : ℕ) → LeftLeave g s r n → T (isAction g s r (numberOf (leave n)))
       leave-stands n c = belongs-action g s r (numberOf (leave n)) (leave n) (leave-number n c) (leave-belongs g s r n c)
 
       -- before visit n + 1 of a child stands visit n, and before leave n + 1 leave n
@@ -228,35 +228,32 @@ module _ (g ids s : List ℕ) (r : ℕ) where
               subst (λ (p : ℕ). decode (actionAt p) ≡ leave (visits s (symbolOf g r 0))) (last-place (w .place) (w .earlier) f) f
 
       -- an action of the rule makes occurrence a available
-      Maker : ℕ → Type 0
+      abbrev pub Maker : ℕ → Type 0
       Maker a = (e : ℕ) × T (isAction g s r e) × T (makes g s r (decode e) a)
 
       compute-maker : (a : ℕ) → T (defining g r a) → Maker a
-      unfolding Maker
       compute-maker a t =
           (a, compute-stands a t,
           subst⁻¹ (λ (x : Action). T (makes g s r x a)) (decode-compute a (defining-fits a t)) (compute-makes g s r a t))
 
       leave-maker : (a n : ℕ) → LeftLeave g s r n → T (inheritedOf g s r 0 (suc n) a) → Maker a
-      unfolding Maker
       leave-maker a n c t =
           (numberOf (leave n), leave-stands n c,
           subst⁻¹ (λ (x : Action). T (makes g s r x a)) (leave-number n c) (leave-makes g s r n a t))
 
       visit-maker : (a i n : ℕ) → ChildVisit g s r i n → T (synthesizedOf g s r i n a) → Maker a
-      unfolding Maker
       visit-maker a i n c t =
           (numberOf (visit i n), visit-stands i n c,
           subst⁻¹ (λ (x : Action). T (makes g s r x a)) (visit-number i n c) (visit-makes g s r i n a (c .nonterminalThere) t))
 
       -- an attribute belongs to one of its symbol's visits
-      visit-counts : (a : ℕ) → T (occurrence g r a) → T (nonterminal g (symbolOf g r (position a)))
+      pub visit-counts : (a : ℕ) → T (occurrence g r a) → T (nonterminal g (symbolOf g r (position a)))
           → (1 ≤ visitAt g s r a) × (visitAt g s r a ≤ visits s (symbolOf g r (position a)))
       unfolding visitAt setAt
       visit-counts a t n = visit-inside s (symbolOf g r (position a)) (attribute a) (omega arith) (set-low g ids s r h a t n)
 
       -- an occurrence of a nonterminal is there from the start, or some action makes it available
-      maker : (a : ℕ) → T (occurrence g r a) → T (nonterminal g (symbolOf g r (position a))) → T (inheritedOf g s r 0 1 a) ⊎ Maker a
+      pub maker : (a : ℕ) → T (occurrence g r a) → T (nonterminal g (symbolOf g r (position a))) → T (inheritedOf g s r 0 1 a) ⊎ Maker a
       maker a t n = ⊎-elim child left (below-or-not 0 (position a))
         where
           counted : (1 ≤ visitAt g s r a) × (visitAt g s r a ≤ visits s (symbolOf g r (position a)))
@@ -300,7 +297,6 @@ module _ (g ids s : List ℕ) (r : ℕ) where
       pub available-first : (j o a : ℕ) → j < size → decode (actionAt j) ≡ compute o → T (edp g ids s r a o)
           → T (not (nonterminal g (symbolOf g r (position a)))) ⊎ (T (inheritedOf g s r 0 1 a)
               ⊎ ((e : ℕ) × Earlier (sequenceOf g ids s r) j e × T (makes g s r (decode e) a)))
-      unfolding Maker
       available-first j o a l d arc =
           let t : T (occurrence g r a) = arc-starts g ids s r h a o arc in
           ⊎-elim (λ n. inr (⊎-elim (λ f. inl f) (λ w. inr (w .0, before (w .0) (w .1) (w .2) t, w .2)) (maker a t n))) (λ n. inl n)

@@ -1,3 +1,4 @@
+-- `closing::add_arc` meets its contract. Assumes nothing.
 use Rattle.closing.proofs.RewriteLaws.{taken-less}
 use Rattle.closing.proofs.AddLaws.{Adding, adding-start, adding-turn, adding-finish}
 use borrow.Author.Needs.{needs}
@@ -16,75 +17,57 @@ Inv-loop rows₀ base among a b reached left₀ rows left = Adding rows₀ base 
 abbrev μ-loop : tie.MeasureT-loop
 μ-loop rows₀ base among a b reached left₀ rows left = left
 
--- src/lib.rt:30:35
 add-with : tie.Need-add-with Inv-loop μ-loop
 add-with c = search needs
 
--- src/lib.rt:30:30
 mul-with : tie.Need-mul-with Inv-loop μ-loop
 mul-with c = search needs
 
--- src/lib.rt:30:30
 slice-read-with : tie.Need-slice-read-with Inv-loop μ-loop
 slice-read-with c = search needs
 
--- src/lib.rt:30:9
 with-requires : tie.Need-with-requires Inv-loop μ-loop
 with-requires c κs = search needs
 
--- src/lib.rt:32:5
 loop-holds : tie.Need-loop-holds Inv-loop μ-loop
 loop-holds c = search adding-start
 
--- src/lib.rt:33:13
 first-requires : tie.Need-first-requires Inv-loop μ-loop
 first-requires c κs = search needs
 
--- src/lib.rt:34:9
 without-requires : tie.Need-without-requires Inv-loop μ-loop
 without-requires c κs = search needs
 
--- src/lib.rt:35:40
 add-extended : tie.Need-add-extended Inv-loop μ-loop
 add-extended c = search needs
 
--- src/lib.rt:35:35
 mul-extended : tie.Need-mul-extended Inv-loop μ-loop
 mul-extended c = search needs
 
--- src/lib.rt:35:35
 slice-read-extended : tie.Need-slice-read-extended Inv-loop μ-loop
 slice-read-extended c = search needs
 
--- src/lib.rt:35:26
 extended-requires : tie.Need-extended-requires Inv-loop μ-loop
 extended-requires c κs = search needs
 
--- src/lib.rt:35:14
 add-rows : tie.Need-add-rows Inv-loop μ-loop
 add-rows c = search needs
 
--- src/lib.rt:35:9
 mul-rows : tie.Need-mul-rows Inv-loop μ-loop
 mul-rows c = search needs
 
--- src/lib.rt:35:9
 slice-write-rows : tie.Need-slice-write-rows Inv-loop μ-loop
 slice-write-rows c = search needs
 
--- src/lib.rt:32:5
 loop-less : tie.Need-loop-less Inv-loop μ-loop
 loop-less c = search taken-less
 
--- src/lib.rt:32:5
 loop-again : tie.Need-loop-again Inv-loop μ-loop
 loop-again c = search adding-turn
 
--- src/lib.rt:26:1
 same-length : tie.Need-same-length Inv-loop μ-loop
 same-length c = search needs
 
--- src/lib.rt:26:1
 returns : tie.Need-returns Inv-loop μ-loop
 returns c = search adding-finish
 

@@ -1,3 +1,4 @@
+-- `closing::arcs_at` meets its contract. Assumes nothing.
 use native.Mathlib.Omega.{arith}
 use borrow.Author.Needs.{needs}
 use Prim.Native.Nat.{_≤_, _-_}
@@ -18,59 +19,45 @@ Inv-loop rows base i count arcs₀ a₀ arcs a = (a ≤ count) × (arcs ≡ arcs
 abbrev μ-loop : tie.MeasureT-loop
 μ-loop rows base i count arcs₀ a₀ arcs a = count - a
 
--- src/lib.rt:45:5
 loop-holds : tie.Need-loop-holds Inv-loop μ-loop
 loop-holds c = (search needs, gather-none _ _ _)
 
--- src/lib.rt:46:31
 mul-row : tie.Need-mul-row Inv-loop μ-loop
 mul-row c = search needs
 
--- src/lib.rt:46:24
 add-row : tie.Need-add-row Inv-loop μ-loop
 add-row c = search needs
 
--- src/lib.rt:46:24
 add-row-2 : tie.Need-add-row-2 Inv-loop μ-loop
 add-row-2 c = search needs
 
--- src/lib.rt:46:19
 mul-row-2 : tie.Need-mul-row-2 Inv-loop μ-loop
 mul-row-2 c = search needs
 
--- src/lib.rt:46:19
 shared-slice-read-row : tie.Need-shared-slice-read-row Inv-loop μ-loop
 shared-slice-read-row c = search needs
 
--- src/lib.rt:47:64
 mul-field : tie.Need-mul-field Inv-loop μ-loop
 mul-field c = search needs
 
--- src/lib.rt:47:47
 field-requires : tie.Need-field-requires Inv-loop μ-loop
 field-requires c κs = search needs
 
--- src/lib.rt:47:72
 mul-raised : tie.Need-mul-raised Inv-loop μ-loop
 mul-raised c = search needs
 
--- src/lib.rt:47:34
 raised-requires : tie.Need-raised-requires Inv-loop μ-loop
 raised-requires c κs = (search field-fits, search needs)
 
--- src/lib.rt:47:9
 union-requires : tie.Need-union-requires Inv-loop μ-loop
 union-requires c κs = search needs
 
--- src/lib.rt:45:9
 add-a : tie.Need-add-a Inv-loop μ-loop
 add-a c = search needs
 
--- src/lib.rt:45:5
 loop-less : tie.Need-loop-less Inv-loop μ-loop
 loop-less c = search needs
 
--- src/lib.rt:45:5
 loop-again : tie.Need-loop-again Inv-loop μ-loop
 loop-again c = 
     (search needs,
@@ -80,7 +67,6 @@ loop-again c =
     (omega arith) (c .before .before .before .before .before .loop .inv .1) (c .before .before .field .ensures) (c .before .raised .ensures)
     (c .union .ensures))
 
--- src/lib.rt:40:1
 returns : tie.Need-returns Inv-loop μ-loop
 returns c = 
     gathered (c .before .before .before .args .rows .now) (c .before .before .before .args .base) (c .before .before .before .args .i)

@@ -1,3 +1,4 @@
+-- `closing::extended` meets its contract. Assumes nothing.
 use Rattle.closing.proofs.AddLaws.{first-way, second-way, no-way}
 use borrow.Author.Needs.{needs}
 use Rattle.closing.proofs.extended.Statement.{statement}
@@ -7,27 +8,21 @@ use Rattle.closing.proofs.extended.Lts as lts
 use Rattle.bits.proofs.has.Reads as has-reads
 use Rattle.bits.proofs.union.Reads as union-reads
 
--- src/lib.rt:17:9
 union-requires : tie.Need-union-requires
 union-requires c κs = search needs
 
--- src/lib.rt:17:9
 returns : tie.Need-returns
 returns c = search first-way
 
--- src/lib.rt:19:8
 has-requires : tie.Need-has-requires
 has-requires c κs = search needs
 
--- src/lib.rt:20:9
 union-requires-2 : tie.Need-union-requires-2
 union-requires-2 c κs = search needs
 
--- src/lib.rt:20:9
 returns-2 : tie.Need-returns-2
 returns-2 c = search second-way
 
--- src/lib.rt:12:1
 returns-3 : tie.Need-returns-3
 returns-3 c = search no-way
 

@@ -1,3 +1,4 @@
+-- `placing::class_of` meets its contract. Assumes nothing.
 use Rattle.placing.proofs.StepLaws.{class-odd, class-even}
 use borrow.Author.Needs.{needs}
 use Rattle.placing.proofs.class_of.Statement.{statement}
@@ -6,15 +7,12 @@ use Rattle.placing.proofs.class_of.Reads as reads
 use Rattle.placing.proofs.class_of.Lts as lts
 use Rattle.bits.proofs.minus.Reads as minus-reads
 
--- src/lib.rt:61:9
 minus-requires : tie.Need-minus-requires
 minus-requires c κs = search needs
 
--- src/lib.rt:61:9
 returns : tie.Need-returns
 returns c = search class-odd
 
--- src/lib.rt:57:1
 returns-2 : tie.Need-returns-2
 returns-2 c = search class-even
 

@@ -1,3 +1,4 @@
+-- `placing::number_set` meets its contract. Assumes nothing.
 use borrow.Author.Needs.{needs}
 use Rattle.closing.proofs.RewriteLaws.{taken-less}
 use Rattle.placing.proofs.TakenLaws.{Numbering, numbering-place, numbering-start, numbering-turn, numbering-finish}
@@ -14,43 +15,33 @@ Inv-loop sets₀ at taken k left₀ sets left = Numbering sets₀ at taken k set
 abbrev μ-loop : tie.MeasureT-loop
 μ-loop sets₀ at taken k left₀ sets left = left
 
--- src/lib.rt:50:5
 loop-holds : tie.Need-loop-holds Inv-loop μ-loop
 loop-holds c = search numbering-start
 
--- src/lib.rt:51:13
 first-requires : tie.Need-first-requires Inv-loop μ-loop
 first-requires c κs = search needs
 
--- src/lib.rt:52:9
 without-requires : tie.Need-without-requires Inv-loop μ-loop
 without-requires c κs = search needs
 
--- src/lib.rt:53:14
 add-sets : tie.Need-add-sets Inv-loop μ-loop
 add-sets c = search needs
 
--- src/lib.rt:53:9
 mul-sets : tie.Need-mul-sets Inv-loop μ-loop
 mul-sets c = search needs
 
--- src/lib.rt:53:9
 slice-write-sets : tie.Need-slice-write-sets Inv-loop μ-loop
 slice-write-sets c = search (numbering-place, needs)
 
--- src/lib.rt:50:5
 loop-less : tie.Need-loop-less Inv-loop μ-loop
 loop-less c = search taken-less
 
--- src/lib.rt:50:5
 loop-again : tie.Need-loop-again Inv-loop μ-loop
 loop-again c = search numbering-turn
 
--- src/lib.rt:45:1
 same-length : tie.Need-same-length Inv-loop μ-loop
 same-length c = search needs
 
--- src/lib.rt:45:1
 returns : tie.Need-returns Inv-loop μ-loop
 returns c = search numbering-finish
 

@@ -1,3 +1,4 @@
+-- `placing::place_nonterminal` meets its contract. Assumes nothing.
 use Rattle.placing.proofs.SetsLaws.{nonterminal-placed, over-terminal, below-fits}
 use Rattle.bits.specs.Bit.{below}
 use native.Mathlib.Omega.{arith}
@@ -14,37 +15,29 @@ use Rattle.reader.proofs.attributes.Reads as attributes-reads
 use Rattle.reader.proofs.mask.Reads as mask-reads
 use Rattle.reader.proofs.nonterminal.Reads as nonterminal-reads
 
--- src/lib.rt:90:8
 nonterminal-requires : tie.Need-nonterminal-requires
 nonterminal-requires c κs = search needs
 
--- src/lib.rt:91:33
 attributes-requires : tie.Need-attributes-requires
 attributes-requires c κs = search needs
 
--- src/lib.rt:91:13
 below-requires : tie.Need-below-requires
 below-requires c κs = search needs
 
--- src/lib.rt:92:28
 mul-place-symbol : tie.Need-mul-place-symbol
 mul-place-symbol c = search needs
 
--- src/lib.rt:92:42
 mask-requires : tie.Need-mask-requires
 mask-requires c κs = search needs
 
--- src/lib.rt:92:9
 place-symbol-requires : tie.Need-place-symbol-requires
 place-symbol-requires c κs = 
     let few : c .before .before .before .attributes .result ≤ 8 = omega (arith, c .before .before .before .before .before .before .before .before .pre .0 .attributesFit, c .before .before .before .attributes .ensures .0) in
     (omega arith, below-fits (c .before .before .before .attributes .result) (c .before .before .below .result) few (c .before .before .below .ensures))
 
--- src/lib.rt:93:9
 same-length : tie.Need-same-length
 same-length c = search needs
 
--- src/lib.rt:93:9
 returns : tie.Need-returns
 returns c = 
     nonterminal-placed (c .before .before .before .before .before .before .before .before .before .before .before .args .words .now) (c .before .before .before .before .before .before .before .before .before .before .before .args .x) (c .before .before .before .before .before .before .before .before .before .before .before .args .arcs) (c .before .before .before .before .before .below .result)
@@ -55,7 +48,6 @@ returns c =
     (c .before .before .before .before .before .below .ensures ∙ ap below (c .before .before .before .before .before .before .attributes .ensures .0))
     (c .before .before .before .mask .ensures .0) (c .before .before .place-symbol .ensures)
 
--- src/lib.rt:84:1
 returns-2 : tie.Need-returns-2
 returns-2 c = search over-terminal
 

@@ -1,3 +1,4 @@
+-- `placing::place_symbol` meets its contract. Assumes nothing.
 use borrow.Author.Needs.{needs}
 use Prim.Native.Nat.{_-_}
 use Rattle.placing.proofs.StepLaws.{Stepping, stepping-start, taken-fits, stepping-turn, stepping-finish}
@@ -16,53 +17,41 @@ Inv-loop sets₀ at every inherited arcs left₀ k₀ sets left k = Stepping set
 abbrev μ-loop : tie.MeasureT-loop
 μ-loop sets₀ at every inherited arcs left₀ k₀ sets left k = 9 - k
 
--- src/lib.rt:72:5
 loop-holds : tie.Need-loop-holds Inv-loop μ-loop
 loop-holds c = search stepping-start
 
--- src/lib.rt:73:71
 add-class-of : tie.Need-add-class-of Inv-loop μ-loop
 add-class-of c = search needs
 
--- src/lib.rt:73:44
 class-of-requires : tie.Need-class-of-requires Inv-loop μ-loop
 class-of-requires c κs = search needs
 
--- src/lib.rt:73:13
 taken-from-requires : tie.Need-taken-from-requires Inv-loop μ-loop
 taken-from-requires c κs = search needs
 
--- src/lib.rt:74:37
 add-number-set : tie.Need-add-number-set Inv-loop μ-loop
 add-number-set c = search needs
 
--- src/lib.rt:74:9
 number-set-requires : tie.Need-number-set-requires Inv-loop μ-loop
 number-set-requires c κs = 
     taken-fits (c .before .before .before .before .before .before .args .sets .now) (c .before .before .before .before .before .before .args .at) (c .before .before .before .before .before .before .args .every) (c .before .before .before .before .before .before .args .inherited) (c .before .before .before .before .before .before .args .arcs) (c .before .before .before .before .loop .sets) (c .before .before .before .before .loop .left) (c .before .before .before .before .loop .k) (c .before .before .class-of .result)
     (c .before .taken-from .result) (c .before .before .before .before .loop .inv) (c .before .taken-from .ensures)
 
--- src/lib.rt:75:9
 minus-requires : tie.Need-minus-requires Inv-loop μ-loop
 minus-requires c κs = search needs
 
--- src/lib.rt:72:9
 add-k : tie.Need-add-k Inv-loop μ-loop
 add-k c = search needs
 
--- src/lib.rt:72:5
 loop-less : tie.Need-loop-less Inv-loop μ-loop
 loop-less c = search needs
 
--- src/lib.rt:72:5
 loop-again : tie.Need-loop-again Inv-loop μ-loop
 loop-again c = search stepping-turn depth 8
 
--- src/lib.rt:67:1
 same-length : tie.Need-same-length Inv-loop μ-loop
 same-length c = search needs
 
--- src/lib.rt:67:1
 returns : tie.Need-returns Inv-loop μ-loop
 returns c = search stepping-finish
 

@@ -1,3 +1,4 @@
+-- `placing::sets_of` meets its contract. Assumes nothing.
 use mathlib.Core.Path.{refl}
 use native.Mathlib.Omega.{arith}
 use borrow.Author.Needs.{needs}
@@ -18,47 +19,37 @@ Inv-loop words ids sets₀ x₀ x-end sets x = (x-end ≡ symbols words) × Sets
 abbrev μ-loop : tie.MeasureT-loop
 μ-loop words ids sets₀ x₀ x-end sets x = x-end - x
 
--- src/lib.rt:101:17
 word-requires : tie.Need-word-requires Inv-loop μ-loop
 word-requires c κs = search needs
 
--- src/lib.rt:101:5
 loop-holds : tie.Need-loop-holds Inv-loop μ-loop
 loop-holds c = (c .word .ensures .0, sets-start (c .before .before .args .words .now) (c .before .before .args .ids .now) (c .before .before .pre))
 
--- src/lib.rt:102:37
 mul-place-nonterminal : tie.Need-mul-place-nonterminal Inv-loop μ-loop
 mul-place-nonterminal c = search needs
 
--- src/lib.rt:102:37
 element-copy-out-place-nonterminal : tie.Need-element-copy-out-place-nonterminal Inv-loop μ-loop
 element-copy-out-place-nonterminal c = search needs
 
--- src/lib.rt:102:45
 slice-aggregate-place-nonterminal : tie.Need-slice-aggregate-place-nonterminal Inv-loop μ-loop
 slice-aggregate-place-nonterminal c = search needs
 
--- src/lib.rt:102:9
 place-nonterminal-requires : tie.Need-place-nonterminal-requires Inv-loop μ-loop
 place-nonterminal-requires c κs = 
     (c .before .before .before .loop .inv .1 .formed .symbol (c .before .before .before .loop .x) (omega arith), (omega (arith, c .before .before .before .loop .inv .1 .formed .symbolsFit), c .before .before .before .loop .inv .1 .size))
 
--- src/lib.rt:101:9
 add-x : tie.Need-add-x Inv-loop μ-loop
 add-x c = search needs
 
--- src/lib.rt:101:5
 loop-less : tie.Need-loop-less Inv-loop μ-loop
 loop-less c = search needs
 
--- src/lib.rt:101:5
 loop-again : tie.Need-loop-again Inv-loop μ-loop
 loop-again c = 
     (c .before .before .before .before .before .loop .inv .0,
     sets-turn (c .before .before .before .before .before .before .before .before .args .words .now) (c .before .before .before .before .before .before .before .before .args .ids .now) (c .before .before .before .before .before .loop .sets) (c .before .before .before .before .before .loop .x) _ (c .before .place-nonterminal .last .1 .1 .1 .0) (c .before .before .before .before .before .loop .inv .1) (omega arith) refl
     (c .before .place-nonterminal .ensures))
 
--- src/lib.rt:96:1
 returns : tie.Need-returns Inv-loop μ-loop
 returns c = 
     sets-finish (c .before .before .before .before .args .words .now) (c .before .before .before .before .args .ids .now) (c .before .loop .sets)

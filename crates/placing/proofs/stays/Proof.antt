@@ -1,3 +1,4 @@
+-- `placing::stays` meets its contract. Assumes nothing.
 use Rattle.placing.proofs.TakenLaws.{stays-by}
 use Rattle.placing.specs.Masks.{stays}
 use borrow.Author.Needs.{needs}
@@ -9,23 +10,18 @@ use Rattle.bits.proofs.common.Reads as common-reads
 use Rattle.bits.proofs.field.Reads as field-reads
 use Rattle.bits.proofs.minus.Reads as minus-reads
 
--- src/lib.rt:14:48
 mul-field : tie.Need-mul-field
 mul-field c = search needs
 
--- src/lib.rt:14:30
 field-requires : tie.Need-field-requires
 field-requires c κs = search needs
 
--- src/lib.rt:14:17
 common-requires : tie.Need-common-requires
 common-requires c κs = search needs
 
--- src/lib.rt:14:5
 minus-requires : tie.Need-minus-requires
 minus-requires c κs = search needs
 
--- src/lib.rt:10:1
 returns : tie.Need-returns
 unfolding stays
 returns c = search stays-by

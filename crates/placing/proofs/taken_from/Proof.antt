@@ -1,3 +1,4 @@
+-- `placing::taken_from` meets its contract. Assumes nothing.
 use borrow.Author.Needs.{needs}
 use Rattle.placing.proofs.TakenLaws.{Taking, taking-start, candidate-small, taking-turn, taking-finish}
 use Rattle.closing.proofs.RewriteLaws.{taken-less}
@@ -17,39 +18,30 @@ Inv-loop arcs unplaced class left₀ taken₀ left taken = Taking arcs unplaced 
 abbrev μ-loop : tie.MeasureT-loop
 μ-loop arcs unplaced class left₀ taken₀ left taken = left
 
--- src/lib.rt:33:9
 common-requires : tie.Need-common-requires Inv-loop μ-loop
 common-requires c κs = search needs
 
--- src/lib.rt:35:5
 loop-holds : tie.Need-loop-holds Inv-loop μ-loop
 loop-holds c = search taking-start
 
--- src/lib.rt:36:13
 first-requires : tie.Need-first-requires Inv-loop μ-loop
 first-requires c κs = search needs
 
--- src/lib.rt:37:9
 without-requires : tie.Need-without-requires Inv-loop μ-loop
 without-requires c κs = search needs
 
--- src/lib.rt:38:32
 stays-requires : tie.Need-stays-requires Inv-loop μ-loop
 stays-requires c κs = search candidate-small
 
--- src/lib.rt:38:9
 kept-requires : tie.Need-kept-requires Inv-loop μ-loop
 kept-requires c κs = search needs
 
--- src/lib.rt:35:5
 loop-less : tie.Need-loop-less Inv-loop μ-loop
 loop-less c = search taken-less
 
--- src/lib.rt:35:5
 loop-again : tie.Need-loop-again Inv-loop μ-loop
 loop-again c = search taking-turn
 
--- src/lib.rt:29:1
 returns : tie.Need-returns Inv-loop μ-loop
 returns c = search taking-finish
 

@@ -1,5 +1,6 @@
 -- `reader::body_fault` meets its contract: the tests stand in the definition's order. Once the right side passed, every symbol of the rule is well formed,
 -- so the two sets can be made and the functions be read against them. Assumes nothing.
+use mathlib.Core.Path.{_∙_}
 use borrow.Author.Needs.{needs}
 use Rattle.reader.specs.Places.{bodyFrom}
 use Rattle.reader.proofs.Laws.{stops, passes, ranged-of, leb-of, right-of, count-of, ranged-le}
@@ -22,9 +23,15 @@ enum-told c = search needs
 enum-told-2 : tie.Need-enum-told-2
 enum-told-2 c = search needs
 
+stopped-requires : tie.Need-stopped-requires
+stopped-requires c κs = search needs
+
 returns : tie.Need-returns
 unfolding bodyFrom
-returns c = (search (stops, ranged-of, leb-of), handed-none _ _ _ _ _ _ (c .enum-told2 .given .1))
+returns c = (
+  (c .stopped .ensures) ∙ (stops _ _ _ _ (ranged-of _ _ _ _ _ (c .before .before .before .ranged .ensures) (leb-of _ _ _ (c .before .before .before .before .right-length .ensures .0))) (c .before .enum-told2 .given .1)),
+  handed-none _ _ _ _ _ _ ((c .stopped .ensures) ∙ (c .before .enum-told2 .given .1)),
+)
 
 add-right-fault : tie.Need-add-right-fault
 add-right-fault c = search needs
@@ -38,12 +45,15 @@ enum-told-3 c = search needs
 enum-told-4 : tie.Need-enum-told-4
 enum-told-4 c = search needs
 
+stopped-requires-2 : tie.Need-stopped-requires-2
+stopped-requires-2 c κs = search needs
+
 returns-2 : tie.Need-returns-2
 unfolding bodyFrom
 returns-2 c = (
-  passes _ _ _ _ (ranged-of _ _ _ _ _ (c .before .before .before .before .before .ranged .ensures) (leb-of _ _ _ (c .before .before .before .before .before .before .right-length .ensures .0))) (c .before .before .before .enum-told .given .1)
-      (stops _ _ _ _ (right-of _ _ _ _ _ (c .before .before .right-fault .ensures) (c .before .before .before .before .before .before .right-length .ensures .0)) (c .enum-told4 .given .1)),
-  handed-none _ _ _ _ _ _ (c .enum-told4 .given .1),
+  (c .stopped2 .ensures) ∙ (passes _ _ _ _ (ranged-of _ _ _ _ _ (c .before .before .before .before .before .before .ranged .ensures) (leb-of _ _ _ (c .before .before .before .before .before .before .before .right-length .ensures .0))) (c .before .before .before .before .enum-told .given .1)
+      (stops _ _ _ _ (right-of _ _ _ _ _ (c .before .before .before .right-fault .ensures) (c .before .before .before .before .before .before .before .right-length .ensures .0)) (c .before .enum-told4 .given .1))),
+  handed-none _ _ _ _ _ _ ((c .stopped2 .ensures) ∙ (c .before .enum-told4 .given .1)),
 )
 
 add-ranged-2 : tie.Need-add-ranged-2
@@ -64,13 +74,16 @@ enum-told-5 c = search needs
 enum-told-6 : tie.Need-enum-told-6
 enum-told-6 c = search needs
 
+stopped-requires-3 : tie.Need-stopped-requires-3
+stopped-requires-3 c κs = search needs
+
 returns-3 : tie.Need-returns-3
 unfolding bodyFrom
 returns-3 c = (
-  passes _ _ _ _ (ranged-of _ _ _ _ _ (c .before .before .before .before .before .before .before .before .before .ranged .ensures) (leb-of _ _ _ (c .before .before .before .before .before .before .before .before .before .before .right-length .ensures .0))) (c .before .before .before .before .before .before .before .enum-told .given .1)
-      (passes _ _ _ _ (right-of _ _ _ _ _ (c .before .before .before .before .before .before .right-fault .ensures) (c .before .before .before .before .before .before .before .before .before .before .right-length .ensures .0)) (c .before .before .before .before .enum-told3 .given .1)
-      (stops _ _ _ _ (count-of _ _ _ _ _ (c .before .before .ranged2 .ensures) (c .before .before .before .before .before .before .before .before .before .before .right-length .ensures .0) (c .before .before .before .function-count .ensures .0)) (c .enum-told6 .given .1))),
-  handed-none _ _ _ _ _ _ (c .enum-told6 .given .1),
+  (c .stopped3 .ensures) ∙ (passes _ _ _ _ (ranged-of _ _ _ _ _ (c .before .before .before .before .before .before .before .before .before .before .ranged .ensures) (leb-of _ _ _ (c .before .before .before .before .before .before .before .before .before .before .before .right-length .ensures .0))) (c .before .before .before .before .before .before .before .before .enum-told .given .1)
+      (passes _ _ _ _ (right-of _ _ _ _ _ (c .before .before .before .before .before .before .before .right-fault .ensures) (c .before .before .before .before .before .before .before .before .before .before .before .right-length .ensures .0)) (c .before .before .before .before .before .enum-told3 .given .1)
+      (stops _ _ _ _ (count-of _ _ _ _ _ (c .before .before .before .ranged2 .ensures) (c .before .before .before .before .before .before .before .before .before .before .before .right-length .ensures .0) (c .before .before .before .before .function-count .ensures .0)) (c .before .enum-told6 .given .1)))),
+  handed-none _ _ _ _ _ _ ((c .stopped3 .ensures) ∙ (c .before .enum-told6 .given .1)),
 )
 
 occurrence-set-requires : tie.Need-occurrence-set-requires
@@ -101,11 +114,13 @@ body-fault-spec =
     ranged-requires
     enum-told
     enum-told-2
+    stopped-requires
     returns
     add-right-fault
     right-fault-requires
     enum-told-3
     enum-told-4
+    stopped-requires-2
     returns-2
     add-ranged-2
     add-ranged-3
@@ -113,6 +128,7 @@ body-fault-spec =
     ranged-requires-2
     enum-told-5
     enum-told-6
+    stopped-requires-3
     returns-3
     occurrence-set-requires
     defining-set-requires

@@ -1,6 +1,7 @@
 -- `reader::functions_fault` meets its contract. The invariant AtFunction: the functions before k passed, the next starts at f, and the set holds
 -- what they left undefined. A target that passed is an occurrence, so it is below 64 and can leave the set. Assumes nothing.
 use Prim.Native.Nat.{_-_, _≤_}
+use mathlib.Core.Path.{_∙_}
 use native.Mathlib.Omega.{arith}
 use borrow.Author.Needs.{needs}
 use Rattle.reader.proofs.Laws.{refused-good}
@@ -32,11 +33,15 @@ enum-told c = search needs
 enum-told-2 : tie.Need-enum-told-2 Inv-loop μ-loop
 enum-told-2 c = search needs
 
+stopped-requires : tie.Need-stopped-requires Inv-loop μ-loop
+stopped-requires c κs = search needs
+
 returns : tie.Need-returns Inv-loop μ-loop
-returns c = (
-  stop _ _ _ _ _ _ _ (c .before .before .before .before .loop .inv .1) _ _ _ (c .before .before .before .before .before .before .function-count .ensures .0) (c .before .before .before .loop-test .taken) (c .before .before .function-fault .ensures) (c .enum-told2 .given .1),
-  (λ h. absurd (refused-good _ _ (c .enum-told2 .given .1) h), λ h. absurd (refused-good _ _ (c .enum-told2 .given .1) h)),
-)
+returns c =
+    let no = refused-good _ _ ((c .stopped .ensures) ∙ (c .before .enum-told2 .given .1)) in (
+      (c .stopped .ensures) ∙ stop _ _ _ _ _ _ _ (c .before .before .before .before .before .loop .inv .1) _ _ _ (c .before .before .before .before .before .before .before .function-count .ensures .0) (c .before .before .before .before .loop-test .taken) (c .before .before .before .function-fault .ensures) (c .before .enum-told2 .given .1),
+      (λ h. absurd (no h), λ h. absurd (no h)),
+    )
 
 word-requires : tie.Need-word-requires Inv-loop μ-loop
 word-requires c κs = search needs
@@ -78,6 +83,7 @@ functions-fault-spec =
     function-fault-requires
     enum-told
     enum-told-2
+    stopped-requires
     returns
     word-requires
     without-requires

@@ -1,3 +1,4 @@
+-- `refusals::place` meets its contract. Assumes nothing.
 use mathlib.Core.Path.{sym, ap}
 use Rattle.refusals.specs.Numbers.{placeOf}
 use borrow.Author.Needs.{needs}

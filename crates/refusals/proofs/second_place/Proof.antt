@@ -1,3 +1,4 @@
+-- `refusals::second_place` meets its contract. Assumes nothing.
 use mathlib.Core.Path.{sym, ap}
 use Rattle.refusals.specs.Numbers.{secondOf}
 use borrow.Author.Needs.{needs}

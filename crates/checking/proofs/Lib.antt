@@ -1,0 +1,3 @@
+pub mod TestLaws
+pub mod NameLaws
+pub mod WholeLaws

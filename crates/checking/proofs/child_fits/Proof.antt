@@ -1,0 +1,37 @@
+-- `checking::child_fits` meets its contract. Assumes nothing.
+use Rattle.checking.proofs.TestLaws.{child-known, child-test}
+use borrow.Author.Needs.{needs}
+use Rattle.checking.proofs.child_fits.Statement.{statement}
+use Rattle.checking.proofs.child_fits.Tie as tie
+use Rattle.checking.proofs.child_fits.Reads as reads
+use Rattle.checking.proofs.child_fits.Lts as lts
+use Rattle.checking.proofs.symbol_at_node.Reads as symbol-at-node-reads
+use Rattle.reader.proofs.symbol_of.Reads as symbol-of-reads
+use Rattle.reader.proofs.word.Reads as word-reads
+
+mul-word : tie.Need-mul-word
+mul-word c = search needs
+
+add-word : tie.Need-add-word
+add-word c = search needs
+
+word-requires : tie.Need-word-requires
+word-requires c κs = search needs
+
+symbol-at-node-requires : tie.Need-symbol-at-node-requires
+symbol-at-node-requires c κs = 
+    (c .before .before .before .pre .0,
+    child-known (c .before .before .before .args .words .now) (c .before .before .before .args .t .now) (c .before .before .before .args .n) (c .before .before .before .args .p) (c .before .before .before .args .i) (c .word .result) (c .before .before .before .pre .1 .0) (c .before .before .before .pre .1 .1) (c .word .ensures .0))
+
+symbol-of-requires : tie.Need-symbol-of-requires
+symbol-of-requires c κs = search needs
+
+returns : tie.Need-returns
+returns c = 
+    child-test (c .before .before .before .before .before .args .words .now) (c .before .before .before .before .before .args .t .now) (c .before .before .before .before .before .args .n) (c .before .before .before .before .before .args .p) (c .before .before .before .before .before .args .i) (c .before .before .word .result) (c .before .symbol-at-node .result)
+    (c .symbol-of .result) (c .before .before .before .before .before .pre .1 .1) (c .before .before .word .ensures .0) (c .before .symbol-at-node .ensures) (c .symbol-of .ensures .0)
+
+pub child-fits-spec : {M : Type 1} → statement M
+child-fits-spec =
+    tie.close
+    (tie.spec mul-word add-word word-requires symbol-at-node-requires symbol-of-requires returns)

@@ -1,0 +1,62 @@
+-- `checking::count_names` meets its contract. Assumes nothing.
+use borrow.Author.Needs.{needs}
+use Prim.Native.Nat.{_-_}
+use native.Mathlib.Omega.{arith}
+use Rattle.checking.proofs.NameLaws.{CountedTo, counted-start, counted-known, counted-naming, counted-turn, counted-finish}
+use Rattle.checking.proofs.count_names.Statement.{statement}
+use Rattle.checking.proofs.count_names.Tie as tie
+use Rattle.checking.proofs.count_names.Reads as reads
+use Rattle.checking.proofs.count_names.Lts as lts
+use Rattle.checking.proofs.name_children.Reads as name-children-reads
+use Rattle.checking.proofs.used_slots.Reads as used-slots-reads
+
+abbrev Inv-loop : tie.InvT-loop
+Inv-loop words offsets t nodes named₀ n₀ named n = CountedTo words t named n
+
+abbrev μ-loop : tie.MeasureT-loop
+μ-loop words offsets t nodes named₀ n₀ named n = nodes - n
+
+loop-holds : tie.Need-loop-holds Inv-loop μ-loop
+loop-holds c = counted-start (c .before .before .args .words .now) (c .before .before .args .t .now) (c .before .before .pre .1 .0)
+
+slice-aggregate-name-children : tie.Need-slice-aggregate-name-children Inv-loop μ-loop
+slice-aggregate-name-children c = search needs
+
+used-slots-requires : tie.Need-used-slots-requires Inv-loop μ-loop
+used-slots-requires c κs = 
+    (c .before .before .before .before .before .pre .0, counted-known (c .before .before .before .before .before .args .words .now) (c .before .before .before .before .before .args .t .now) (c .before .before .loop .named) (c .before .before .loop .n) (c .before .before .loop .inv) (omega arith))
+
+name-children-requires : tie.Need-name-children-requires Inv-loop μ-loop
+name-children-requires c κs = 
+    counted-naming (c .before .before .before .before .before .before .args .words .now) (c .before .before .before .before .before .before .args .t .now) (c .before .before .before .loop .named) (c .before .before .before .loop .n) (c .used-slots .result) (c .before .before .before .loop .inv) (omega arith) (c .used-slots .ensures .0)
+    (c .used-slots .ensures .1)
+
+add-n : tie.Need-add-n Inv-loop μ-loop
+add-n c = search needs
+
+loop-less : tie.Need-loop-less Inv-loop μ-loop
+loop-less c = search needs
+
+loop-again : tie.Need-loop-again Inv-loop μ-loop
+loop-again c = 
+    counted-turn (c .before .before .before .before .before .before .before .before .args .words .now) (c .before .before .before .before .before .before .before .before .args .t .now) (c .before .before .before .before .before .loop .named) (c .before .before .before .before .before .loop .n) (c .before .before .used-slots .result) _ (c .before .before .before .before .before .loop .inv) (omega arith)
+    (c .before .before .used-slots .ensures .0) (c .before .before .used-slots .ensures .1) (c .before .name-children .ensures)
+
+returns : tie.Need-returns Inv-loop μ-loop
+returns c = 
+    counted-finish (c .before .before .before .before .args .words .now) (c .before .before .before .before .args .t .now) (c .before .loop .named) (c .before .loop .n) (c .before .before .before .before .args .nodes) (c .before .loop .inv) (c .before .before .before .before .pre .1 .1) (omega arith)
+
+pub count-names-spec : {M : Type 1} → statement M
+count-names-spec =
+    tie.close
+    (tie.spec
+    Inv-loop
+    μ-loop
+    loop-holds
+    slice-aggregate-name-children
+    used-slots-requires
+    name-children-requires
+    add-n
+    loop-less
+    loop-again
+    returns)

@@ -1,0 +1,87 @@
+-- `checking::name_children` meets its contract. Assumes nothing.
+use borrow.Author.Needs.{needs}
+use Prim.Native.Nat.{_-_}
+use native.Mathlib.Omega.{arith}
+use Rattle.checking.proofs.NameLaws.{NamedTo, named-start, named-inside, named-fits, named-turn, named-finish}
+use Rattle.checking.proofs.name_children.Statement.{statement}
+use Rattle.checking.proofs.name_children.Tie as tie
+use Rattle.checking.proofs.name_children.Reads as reads
+use Rattle.checking.proofs.name_children.Lts as lts
+use Rattle.reader.proofs.word.Reads as word-reads
+
+abbrev Inv-loop : tie.InvT-loop
+Inv-loop named₀ t n used i₀ named i = NamedTo named₀ t n used named i
+
+abbrev μ-loop : tie.MeasureT-loop
+μ-loop named₀ t n used i₀ named i = used - i
+
+loop-holds : tie.Need-loop-holds Inv-loop μ-loop
+loop-holds c = search named-start
+
+mul-word : tie.Need-mul-word Inv-loop μ-loop
+mul-word c = search needs
+
+add-word : tie.Need-add-word Inv-loop μ-loop
+add-word c = search needs
+
+add-word-2 : tie.Need-add-word-2 Inv-loop μ-loop
+add-word-2 c = search needs
+
+word-requires : tie.Need-word-requires Inv-loop μ-loop
+word-requires c κs = search needs
+
+mul-named : tie.Need-mul-named Inv-loop μ-loop
+mul-named c = search needs
+
+slice-read-named : tie.Need-slice-read-named Inv-loop μ-loop
+slice-read-named c = search (named-inside, needs)
+
+add-named : tie.Need-add-named Inv-loop μ-loop
+add-named c = 
+    record {
+        fits = named-fits (c .before .before .before .before .before .before .args .named .now) (c .before .before .before .before .before .before .args .t .now) (c .before .before .before .before .before .before .args .n) (c .before .before .before .before .before .before .args .used) (c .before .before .before .loop .named) (c .before .before .before .loop .i) (c .before .word .result) (c .before .before .before .loop .inv) (omega arith)
+            (c .before .word .ensures .0)
+    }
+
+mul-named-2 : tie.Need-mul-named-2 Inv-loop μ-loop
+mul-named-2 c = search needs
+
+slice-write-named : tie.Need-slice-write-named Inv-loop μ-loop
+slice-write-named c = search (named-inside, needs)
+
+add-i : tie.Need-add-i Inv-loop μ-loop
+add-i c = search needs
+
+loop-less : tie.Need-loop-less Inv-loop μ-loop
+loop-less c = search needs
+
+loop-again : tie.Need-loop-again Inv-loop μ-loop
+loop-again c = search named-turn
+
+same-length : tie.Need-same-length Inv-loop μ-loop
+same-length c = search needs
+
+returns : tie.Need-returns Inv-loop μ-loop
+returns c = search named-finish
+
+pub name-children-spec : {M : Type 1} → statement M
+name-children-spec =
+    tie.close
+    (tie.spec
+    Inv-loop
+    μ-loop
+    loop-holds
+    mul-word
+    add-word
+    add-word-2
+    word-requires
+    mul-named
+    slice-read-named
+    add-named
+    mul-named-2
+    slice-write-named
+    add-i
+    loop-less
+    loop-again
+    same-length
+    returns)

@@ -1,0 +1,63 @@
+-- `checking::names_fault` meets its contract. Assumes nothing.
+use borrow.Author.Needs.{needs}
+use Prim.Native.Nat.{_≤_, _-_}
+use mathlib.Core.Path.{_≡_, refl}
+use native.Mathlib.Omega.{arith}
+use borrow.Author.Tests.{not-true, not-false}
+use Rattle.refusals.specs.declared.Refusal.the-variants.{NotOneParent}
+use Rattle.grammar.specs.Verdicts.{each}
+use Rattle.grammar.specs.declared.Verdict.the-variants.{Good, Refused}
+use Rattle.reader.proofs.Laws.{each-none, each-more, each-stop, each-end}
+use Rattle.checking.specs.Walk.{namedFault}
+use Rattle.checking.proofs.NameLaws.{named-passed, named-refused}
+use Rattle.checking.proofs.names_fault.Statement.{statement}
+use Rattle.checking.proofs.names_fault.Tie as tie
+use Rattle.checking.proofs.names_fault.Reads as reads
+use Rattle.checking.proofs.names_fault.Lts as lts
+use Rattle.checking.proofs.named_once.Reads as named-once-reads
+
+abbrev Inv-loop : tie.InvT-loop
+Inv-loop named nodes n₀ n = (n ≤ nodes) × (each n (λ m. namedFault named m) ≡ Good)
+
+abbrev μ-loop : tie.MeasureT-loop
+μ-loop named nodes n₀ n = nodes - n
+
+loop-holds : tie.Need-loop-holds Inv-loop μ-loop
+loop-holds c = (omega arith, each-none _)
+
+named-once-requires : tie.Need-named-once-requires Inv-loop μ-loop
+named-once-requires c κs = search needs
+
+returns : tie.Need-returns Inv-loop μ-loop
+returns c = 
+    each-stop (c .before .before .before .before .args .nodes) (c .before .before .before .loop .n) (λ m. namedFault (c .before .before .before .before .args .named .now) m) (Refused (NotOneParent (c .before .before .before .loop .n))) (NotOneParent (c .before .before .before .loop .n)) (omega arith) (c .before .before .before .loop .inv .1)
+    (named-refused (c .before .before .before .before .args .named .now) (c .before .before .before .loop .n) (c .before .named-once .result) (c .before .named-once .ensures) (not-true (c .before .named-once .result) (c .if1 .taken))) refl
+
+add-n : tie.Need-add-n Inv-loop μ-loop
+add-n c = search needs
+
+loop-less : tie.Need-loop-less Inv-loop μ-loop
+loop-less c = search needs
+
+loop-again : tie.Need-loop-again Inv-loop μ-loop
+loop-again c = 
+    (omega arith,
+    each-more (c .before .before .before .loop .n) (λ m. namedFault (c .before .before .before .before .args .named .now) m) Good (c .before .before .before .loop .inv .1)
+    (named-passed (c .before .before .before .before .args .named .now) (c .before .before .before .loop .n) (c .before .named-once .result) (c .before .named-once .ensures) (not-false (c .before .named-once .result) (c .if1 .left))) refl)
+
+returns-2 : tie.Need-returns-2 Inv-loop μ-loop
+returns-2 c = search (each-end, arith)
+
+pub names-fault-spec : {M : Type 1} → statement M
+names-fault-spec =
+    tie.close
+    (tie.spec
+    Inv-loop
+    μ-loop
+    loop-holds
+    named-once-requires
+    returns
+    add-n
+    loop-less
+    loop-again
+    returns-2)

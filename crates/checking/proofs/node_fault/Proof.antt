@@ -1,0 +1,39 @@
+-- `checking::node_fault` meets its contract. Assumes nothing.
+use Rattle.checking.proofs.TestLaws.{known-of, node-good, node-child, node-unknown}
+use borrow.Author.Needs.{needs}
+use Rattle.checking.proofs.node_fault.Statement.{statement}
+use Rattle.checking.proofs.node_fault.Tie as tie
+use Rattle.checking.proofs.node_fault.Reads as reads
+use Rattle.checking.proofs.node_fault.Lts as lts
+use Rattle.checking.proofs.known_word.Reads as known-word-reads
+use Rattle.checking.proofs.slots_fit.Reads as slots-fit-reads
+use Rattle.checking.proofs.used_slots.Reads as used-slots-reads
+
+known-word-requires : tie.Need-known-word-requires
+known-word-requires c κs = search needs
+
+used-slots-requires : tie.Need-used-slots-requires
+used-slots-requires c κs = search (known-of, needs)
+
+slots-fit-requires : tie.Need-slots-fit-requires
+slots-fit-requires c κs = search needs
+
+returns : tie.Need-returns
+returns c = search node-good
+
+returns-2 : tie.Need-returns-2
+returns-2 c = search node-child
+
+returns-3 : tie.Need-returns-3
+returns-3 c = search node-unknown
+
+pub node-fault-spec : {M : Type 1} → statement M
+node-fault-spec =
+    tie.close
+    (tie.spec
+    known-word-requires
+    used-slots-requires
+    slots-fit-requires
+    returns
+    returns-2
+    returns-3)

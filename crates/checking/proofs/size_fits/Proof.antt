@@ -1,0 +1,18 @@
+-- `checking::size_fits` meets its contract. Assumes nothing.
+use Rattle.checking.proofs.TestLaws.{size-all, size-none, size-part}
+use Rattle.checking.proofs.size_fits.Statement.{statement}
+use Rattle.checking.proofs.size_fits.Tie as tie
+use Rattle.checking.proofs.size_fits.Reads as reads
+use Rattle.checking.proofs.size_fits.Lts as lts
+
+returns : tie.Need-returns
+returns c = search size-all
+
+returns-2 : tie.Need-returns-2
+returns-2 c = search size-none
+
+returns-3 : tie.Need-returns-3
+returns-3 c = search size-part
+
+pub size-fits-spec : {M : Type 1} → statement M
+size-fits-spec = tie.close (tie.spec returns returns-2 returns-3)

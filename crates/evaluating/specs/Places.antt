@@ -1,0 +1,38 @@
+-- The value of the function that starts at word f of a table, by the values at node n of a tree.
+-- A run knows a function by its word; proofs/PlaceLaws.antt shows that this is the value that trees' Equations give. Assumes nothing.
+use Prim.Native.Nat.{ℕ, _+_}
+use mathlib.Core.Bool.{cond}
+use mathlib.Core.List.{List}
+use lib.Dec.{ltb}
+use lib.IntN.{ℤ, pos}
+use Rattle.basics.specs.Lists.{word}
+use Rattle.values.specs.Value.{result, constant}
+use Rattle.grammar.specs.Table.{argumentWords, isConstant}
+use Rattle.trees.specs.Tree.{cell}
+use Rattle.trees.specs.Equations.{valueAt}
+
+-- the operation of the function at word f, its argument word j, and how many of these are occurrences
+abbrev pub operationAt : List ℕ → ℕ → ℕ
+operationAt g f = word g (f + 1)
+
+abbrev pub argumentAt : List ℕ → ℕ → ℕ → ℕ
+argumentAt g f j = word g (f + 2 + j)
+
+abbrev pub argumentsAt : List ℕ → ℕ → ℕ
+argumentsAt g f = cond (isConstant (operationAt g f)) 0 (argumentWords (operationAt g f))
+
+-- the value of an occurrence at node n
+abbrev pub occurrenceValue : List ℕ → List ℤ → ℕ → ℕ → ℤ
+occurrenceValue t values n o = valueAt values (cell t n o)
+
+-- argument j of the function: the constant of operation 0, else the value of the occurrence; an operation looks no further
+unfoldable pub argumentFrom : List ℕ → List ℕ → List ℤ → ℕ → ℕ → ℕ → ℤ
+argumentFrom g t values n f j =
+    cond (isConstant (operationAt g f)) (constant (argumentAt g f 0))
+    (cond (ltb j (argumentsAt g f)) (occurrenceValue t values n (argumentAt g f j)) (pos 0))
+
+-- the value that the function gives
+unfoldable pub valueFrom : List ℕ → List ℕ → List ℤ → ℕ → ℕ → ℤ
+valueFrom g t values n f =
+    result (operationAt g f) (argumentFrom g t values n f 0) (argumentFrom g t values n f 1) (argumentFrom g t values n f 2)
+    (argumentFrom g t values n f 3)

@@ -1,0 +1,3 @@
+pub mod LocatedLaws
+pub mod StateLaws
+pub mod RunLaws

@@ -1,0 +1,159 @@
+-- The search for a cycle: what it found, or that nothing is there, is what the definition names; and where the rows hold the paths of a
+-- grammar, that is the cycle that planning answers with. Assumes nothing.
+use Prim.Native.Nat.{ℕ, zero, suc, _+_, _*_, _≤_, _<_}
+use mathlib.Core.Path.{_≡_, refl, sym, _∙_, ap, ap₂, subst, subst⁻¹}
+use mathlib.Core.Logic.{_⊎_, ⊎-elim, _↔_}
+use mathlib.Core.Bool.{Bool, true, false, cond, not}
+use mathlib.Core.List.{List}
+use native.Mathlib.Omega.{arith}
+use lib.Dec.{T, ltb, T-not, not-T, lt→ltb}
+use lib.ListN.{length, getD}
+use Rattle.bits.specs.Bit.{hasb}
+use Rattle.basics.specs.Tests.{_and_, some, least}
+use Rattle.basics.proofs.TestLaws.{
+    Least, least-is, least-one, some-at, some-find, chosen, passed-over, true-T, false-T, T-true, T-false, below-suc, below-or-not, and-intro, and-left,
+    and-right, same-test, tested
+}
+use Rattle.grammar.specs.Table.{rules, ruleCounts}
+use Rattle.ordered.specs.Computed.{hasCycle, circular, cycleRule, cycleOccurrence}
+use Rattle.closing.specs.Rows.{leads}
+use Rattle.planning.specs.Buffers.{over, rowsOf}
+use Rattle.inducing.specs.declared.Cycle.{Cycle}
+use Rattle.inducing.specs.declared.Cycle.the-variants.{At, Nothing}
+use Rattle.inducing.specs.Cycles.{lies, cyclic, cycleIn}
+use Rattle.inducing.proofs.RowLaws.{over-leads}
+
+-- the first n pass nothing
+abbrev pub None : ℕ → (ℕ → Bool) → Type 0
+None n f = (k : ℕ) → k < n → T (f k) → ⊥
+
+pub none-yet : (f : ℕ → Bool) → None 0 f
+none-yet f k h t = omega arith
+
+pub none-more : (n : ℕ) (f : ℕ → Bool) → None n f → (f n ≡ false) → None (n + 1) f
+none-more n f w e k h t =
+    ⊎-elim (λ l. w k l t) (λ l. T-not (f n) (false-T (f n) e) (subst (λ (x : ℕ). T (f x)) l t)) (below-suc k n (omega arith))
+
+module _ (rows : List ℕ) where
+  -- the test of one row, as the search meets it
+  pub lies-is : (r o : ℕ) (b : Bool) → b ≡ hasb o (getD rows (64 * r + o) 0) → b ≡ lies rows r o
+  unfolding lies leads
+  lies-is r o b e = e
+
+  -- a rule none of whose occurrences lies cyclic nowhere
+  cyclic-none : (r : ℕ) → None 64 (λ o. lies rows r o) → cyclic rows r ≡ false
+  unfolding cyclic
+  cyclic-none r w =
+      T-false (some 64 (λ o. lies rows r o))
+      (not-T (some 64 (λ o. lies rows r o)) (λ t. let k = some-find 64 (λ o. lies rows r o) t in w (k .0) (k .1) (k .2)))
+
+  pub rule-passed : (r o : ℕ) → None r (λ q. cyclic rows q) → None o (λ p. lies rows r p) → 64 ≤ o → None (r + 1) (λ q. cyclic rows q)
+  rule-passed r o w v h = none-more r (λ q. cyclic rows q) w (cyclic-none r (λ k l. v k (omega arith)))
+
+  pub row-passed : (r o : ℕ) (b : Bool) → None o (λ p. lies rows r p) → b ≡ hasb o (getD rows (64 * r + o) 0) → b ≡ false
+      → None (o + 1) (λ p. lies rows r p)
+  row-passed r o b w e f = none-more o (λ p. lies rows r p) w (sym (lies-is r o b e) ∙ f)
+
+  -- nothing is found
+  pub search-none : (n r : ℕ) (found : Cycle) → None r (λ q. cyclic rows q) → n ≤ r → found ≡ Nothing → found ≡ cycleIn rows n
+  unfolding cycleIn
+  search-none n r found w h e =
+      e ∙ sym (passed-over (some n (λ q. cyclic rows q)) (At (least n (λ q. cyclic rows q)) (least 64 (λ o. lies rows (least n (λ q. cyclic rows q)) o))) Nothing
+      (not-T (some n (λ q. cyclic rows q)) (λ t. let k = some-find n (λ q. cyclic rows q) t in w (k .0) (omega (arith, k .1)) (k .2))))
+
+  -- the first is found
+  pub search-found : (n r o : ℕ) (b : Bool) → r < n → o < 64 → None r (λ q. cyclic rows q) → None o (λ p. lies rows r p)
+      → b ≡ hasb o (getD rows (64 * r + o) 0) → b ≡ true → At r o ≡ cycleIn rows n
+  unfolding cycleIn cyclic
+  search-found n r o b h l w v e f =
+      let here : T (lies rows r o) = true-T _ (sym (lies-is r o b e) ∙ f) in
+      let there : T (cyclic rows r) = some-at 64 (λ p. lies rows r p) o l here in
+      let er : r ≡ least n (λ q. cyclic rows q) =
+              least-one n (λ q. cyclic rows q) r (least n (λ q. cyclic rows q))
+              (record { inside = omega arith; passes = λ _. there; lowest = w }) (least-is n (λ q. cyclic rows q)) in
+      let eo : o ≡ least 64 (λ p. lies rows r p) =
+              least-one 64 (λ p. lies rows r p) o (least 64 (λ p. lies rows r p))
+              (record { inside = omega arith; passes = λ _. here; lowest = v }) (least-is 64 (λ p. lies rows r p)) in
+      ap (λ (x : ℕ). At r x) eo
+      ∙ (ap (λ (q : ℕ). At q (least 64 (λ p. lies rows q p))) er
+      ∙ sym (chosen (some n (λ q. cyclic rows q)) (At (least n (λ q. cyclic rows q)) (least 64 (λ o. lies rows (least n (λ q. cyclic rows q)) o))) Nothing (some-at n (λ q. cyclic rows q) r h there)))
+
+-- the least and some of tests that agree below n
+least-same : (n : ℕ) (f h : ℕ → Bool) → ((k : ℕ) → k < n → f k ≡ h k) → least n f ≡ least n h
+least-same n f h e =
+    least-one n f (least n f) (least n h) (least-is n f)
+    (let w = least-is n h in
+    record {
+        inside = w .inside;
+        passes = λ l. subst⁻¹ (λ (b : Bool). T b) (e (least n h) l) (w .passes l);
+        lowest = λ k l t. w .lowest k l (subst (λ (b : Bool). T b) (e k (omega (arith, w .inside))) t)
+    })
+
+some-same : (n : ℕ) (f h : ℕ → Bool) → ((k : ℕ) → k < n → f k ≡ h k) → some n f ≡ some n h
+some-same n f h e =
+    same-test (some n f) (some n h)
+    (λ t. let k = some-find n f t in some-at n h (k .0) (k .1) (subst (λ (b : Bool). T b) (e (k .0) (k .1)) (k .2)))
+    (λ t. let k = some-find n h t in some-at n f (k .0) (k .1) (subst⁻¹ (λ (b : Bool). T b) (e (k .0) (k .1)) (k .2)))
+
+module _ (g : List ℕ) (paths : ℕ → ℕ → ℕ → Bool) (lent rows : List ℕ) (is : rows ≡ over (rowsOf g paths) lent) where
+  lies-paths : (r o : ℕ) → r < rules g → o < 64 → lies rows r o ≡ paths r o o
+  unfolding lies
+  lies-paths r o h l = ap (λ (s : List ℕ). leads s (64 * r) o o) is ∙ over-leads g paths lent r o o h l l
+
+  cyclic-has : (r : ℕ) → r < rules g → cyclic rows r ≡ hasCycle g paths r
+  unfolding cyclic hasCycle
+  cyclic-has r h =
+      some-same 64 (λ o. lies rows r o) (λ o. paths r o o) (λ o l. lies-paths r o h l)
+      ∙ same-test _ _ (λ t. and-intro (ruleCounts g r) _ (lt→ltb r (rules g) h) t) (λ t. and-right (ruleCounts g r) _ t)
+
+  -- the search over the rows of a grammar is the search that planning is defined by
+  pub cycle-is : cycleIn rows (rules g) ≡ cond (circular g paths) (At (cycleRule g paths) (cycleOccurrence g paths)) Nothing
+  unfolding cycleIn circular cycleRule cycleOccurrence
+  cycle-is =
+      let er : least (rules g) (λ r. cyclic rows r) ≡ cycleRule g paths =
+              least-same (rules g) (λ r. cyclic rows r) (λ r. hasCycle g paths r) cyclic-has in
+      let es : some (rules g) (λ r. cyclic rows r) ≡ circular g paths =
+              some-same (rules g) (λ r. cyclic rows r) (λ r. hasCycle g paths r) cyclic-has in
+      ap (λ (b : Bool). cond b (At (least (rules g) (λ r. cyclic rows r)) (least 64 (λ o. lies rows (least (rules g) (λ r. cyclic rows r)) o))) Nothing) es
+      ∙ (ap (λ (q : ℕ). cond (circular g paths) (At q (least 64 (λ o. lies rows q o))) Nothing) er
+      ∙ go (circular g paths) refl)
+    where
+      go : (b : Bool) → circular g paths ≡ b
+          → cond b (At (cycleRule g paths) (least 64 (λ o. lies rows (cycleRule g paths) o))) Nothing
+          ≡ cond b (At (cycleRule g paths) (cycleOccurrence g paths)) Nothing
+      go true e =
+          ap (λ (o : ℕ). At (cycleRule g paths) o)
+          (least-same 64 (λ o. lies rows (cycleRule g paths) o) (λ o. paths (cycleRule g paths) o o)
+          (λ o l. lies-paths (cycleRule g paths) o
+              (let k = some-find (rules g) (λ r. hasCycle g paths r) (true-T _ e) in
+              let w = least-is (rules g) (λ r. hasCycle g paths r) in
+              ⊎-elim (λ m. m) (λ m. absurd (w .lowest (k .0) (omega (arith, k .1)) (k .2))) (below-or-not (cycleRule g paths) (rules g))) l))
+      go false e = refl
+
+  -- what the search answers, for each of its two answers
+  pub cycle-found : (r o : ℕ) → cycleIn rows (rules g) ≡ At r o
+      → (circular g paths ≡ true) × (r ≡ cycleRule g paths) × (o ≡ cycleOccurrence g paths)
+  cycle-found r o e = go (circular g paths) refl
+    where
+      go : (b : Bool) → circular g paths ≡ b → (circular g paths ≡ true) × (r ≡ cycleRule g paths) × (o ≡ cycleOccurrence g paths)
+      go true f =
+          let q : At r o ≡ At (cycleRule g paths) (cycleOccurrence g paths) =
+                  sym e ∙ (cycle-is ∙ ap (λ (b : Bool). cond b (At (cycleRule g paths) (cycleOccurrence g paths)) Nothing) f) in
+          (f, (cc), (cc))
+      go false f =
+          let q : At r o ≡ Nothing = sym e ∙ (cycle-is ∙ ap (λ (b : Bool). cond b (At (cycleRule g paths) (cycleOccurrence g paths)) Nothing) f) in
+          absurd (let z : _≡_ {A = ℕ} 0 1 = cc in omega arith)
+
+  pub cycle-nothing : cycleIn rows (rules g) ≡ Nothing → circular g paths ≡ false
+  cycle-nothing e = go (circular g paths) refl
+    where
+      go : (b : Bool) → circular g paths ≡ b → circular g paths ≡ false
+      go false f = f
+      go true f =
+          let q : Nothing ≡ At (cycleRule g paths) (cycleOccurrence g paths) =
+                  sym e ∙ (cycle-is ∙ ap (λ (b : Bool). cond b (At (cycleRule g paths) (cycleOccurrence g paths)) Nothing) f) in
+          absurd (let z : _≡_ {A = ℕ} 0 1 = cc in omega arith)
+
+  -- and back: nothing circular, nothing found
+  pub nothing-circular : circular g paths ≡ false → cycleIn rows (rules g) ≡ Nothing
+  nothing-circular f = cycle-is ∙ ap (λ (b : Bool). cond b (At (cycleRule g paths) (cycleOccurrence g paths)) Nothing) f

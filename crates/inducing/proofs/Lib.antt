@@ -1,0 +1,11 @@
+pub mod SetLaws
+pub mod RowLaws
+pub mod CycleLaws
+pub mod ClosesLaws
+pub mod FillLaws
+pub mod SpreadLaws
+pub mod RuleLaws
+pub mod HoldsLaws
+pub mod InduceLaws
+pub mod StateLaws
+pub mod ExactLaws

@@ -1,0 +1,42 @@
+-- Arcs added to the rows of one rule: what the rows say afterwards is the paths of what they said before and of the arcs.
+-- Assumes nothing.
+use Prim.Native.Nat.{ℕ, _+_, _*_, _/_, _%_, _≤_, _<_}
+use mathlib.Core.Path.{_≡_}
+use mathlib.Core.Logic.{_⊎_}
+use mathlib.Core.Bool.{cond}
+use mathlib.Core.List.{List}
+use lib.Dec.{T}
+use lib.ListN.{length}
+use Rattle.bits.specs.Bit.{hasb}
+use Rattle.basics.specs.Lists.{word}
+use Rattle.relations.specs.Paper.{Path⁺}
+use Rattle.closing.specs.Rows.{leads, added}
+use Rattle.closing.proofs.ClosedLaws.{Kept}
+
+-- the arc from a to b added, unless a path leads from a to b already
+unfoldable pub joined : List ℕ → ℕ → ℕ → ℕ → ℕ → List ℕ
+joined rows base among a b = cond (leads rows base a b) rows (added rows base among a b)
+
+-- a step from c to d: the rows lead there, or it is one of the arcs
+abbrev pub Step : List ℕ → ℕ → (ℕ → ℕ → Type 0) → ℕ → ℕ → Type 0
+Step rows base arc c d = ((c < 64) × T (leads rows base c d)) ⊎ arc c d
+
+-- the rows after some arcs were added to those before: closed, between the occurrences, nothing lost, every arc there, nothing but paths
+pub record Closes (before : List ℕ) (base among : ℕ) (arc : ℕ → ℕ → Type 0) (after : List ℕ) : Type 0 where
+  pub size : length after ≡ length before
+  pub outside : (j : ℕ) → (j < base) ⊎ (base + 64 ≤ j) → word after j ≡ word before j
+  pub kept : Kept after base among
+  pub keeps : (o x : ℕ) → o < 64 → T (leads before base o x) → T (leads after base o x)
+  pub has : (a b : ℕ) → arc a b → T (leads after base a b)
+  pub sound : (o x : ℕ) → o < 64 → T (leads after base o x) → Path⁺ (Step before base arc) o x
+
+-- arc k = 8a + b of a set of arcs, between attributes a and b at position i
+pub record ArcAt (i arcs c d : ℕ) : Type 0 where
+  pub number : ℕ
+  pub member : T (hasb number arcs)
+  pub start : c ≡ 8 * i + number / 8
+  pub end : d ≡ 8 * i + number % 8
+
+-- the ends of each such arc are occurrences
+abbrev pub Ends : ℕ → ℕ → ℕ → Type 0
+Ends among i arcs = (k : ℕ) → T (hasb k arcs) → T (hasb (8 * i + k / 8) among) × T (hasb (8 * i + k % 8) among)

@@ -1,0 +1,4 @@
+pub mod Cycles
+pub mod Closes
+pub mod Arcs
+pub mod Rules

@@ -1,0 +1,3 @@
+pub mod RoomLaws
+pub mod WriteLaws
+pub mod StageLaws

@@ -1,0 +1,161 @@
+-- The words of a plan, block after block: the set words, then the sequence of each rule.
+-- Assumes nothing.
+use Prim.Native.Nat.{ℕ, zero, suc, _+_, _*_, _-_, _≤_, _<_}
+use mathlib.Core.Path.{_≡_, refl, sym, _∙_, ap, ap₂, subst, subst⁻¹}
+use mathlib.Core.Bool.{Bool, true, false}
+use mathlib.Core.List.{List, [], _∷_, _++_, append-assoc}
+use native.Mathlib.Omega.{arith}
+use native.Mathlib.Numerals.{add-one}
+use native.Mathlib.Nat.{mul-comm}
+use lib.ListN.{length, getD, take, drop, length-append, length-drop}
+use lib.Seq.{take-append-seam, drop-append-add, drop-drop}
+use Rattle.basics.specs.Lists.{word, blocks}
+use Rattle.basics.proofs.ListLaws.{length-blocks, length-padded}
+use Rattle.bits.specs.Bit.{collect}
+use Rattle.grammar.specs.declared.Verdict.the-variants.{Good}
+use Rattle.grammar.specs.Table.{rules}
+use Rattle.grammar.proofs.Accepted.{accepted}
+use Rattle.relations.specs.Computed.{idsOf}
+use Rattle.sets.specs.Computed.{setsOf}
+use Rattle.sets.proofs.SetWords.{length-sets}
+use Rattle.sequences.specs.Order.{sequenceOf}
+use Rattle.sequences.proofs.Planned.{planned-short}
+use Rattle.planning.specs.Buffers.{over, rowsOf, sequenceWords, planOf}
+use Rattle.planning.specs.Answer.{idpPaths, edpPaths, sequencesOf, acceptedPlan}
+use Rattle.planning.proofs.Answers.{no-idp-cycle, no-edp-cycle}
+use Rattle.inducing.proofs.RuleLaws.{offset-is}
+use Rattle.inducing.proofs.RowLaws.{over-row}
+use Rattle.sequencing.specs.Given.{Given, written}
+use Rattle.planner.specs.Ready.{Ordered, sets}
+
+-- a block written after what is already written
+over-written : (done block lent : List ℕ) → written (over done lent) (length done) block ≡ over (done ++ block) lent
+unfolding written over
+over-written done block lent =
+    ap (λ (x : List ℕ). x ++ (block ++ drop (length done + length block) (done ++ drop (length done) lent))) (take-append-seam done (drop (length done) lent))
+    ∙ (ap (λ (x : List ℕ). done ++ (block ++ x))
+    (drop-append-add done (drop (length done) lent) (length block) ∙ (drop-drop (length block) (length done) lent
+    ∙ ap (λ (n : ℕ). drop n lent) (sym (length-append done block))))
+    ∙ sym (append-assoc done block (drop (length (done ++ block)) lent)))
+
+pub over-size : (a lent : List ℕ) → length a ≤ length lent → length (over a lent) ≡ length lent
+unfolding over
+over-size a lent h = omega (arith, length-append a (drop (length a) lent), length-drop (length a) lent)
+
+-- what is written twice is as the longer, second writing left it
+pub over-over : (a b lent : List ℕ) → length b ≤ length a → over a (over b lent) ≡ over a lent
+unfolding over
+over-over a b lent h =
+    let n : ℕ = length a - length b in
+    let e : length b + n ≡ length a = omega arith in
+    ap (λ (x : List ℕ). a ++ x)
+    (ap (λ (k : ℕ). drop k (b ++ drop (length b) lent)) (sym e)
+    ∙ (drop-append-add b (drop (length b) lent) n ∙ (drop-drop n (length b) lent ∙ ap (λ (k : ℕ). drop k lent) e)))
+
+-- a block written at the start
+pub first-written : (block lent : List ℕ) → written lent 0 block ≡ over block lent
+unfolding written over
+first-written block lent =
+    let e : 0 + length block ≡ length block = omega arith in ap (λ (n : ℕ). block ++ drop n lent) e
+
+-- the words of the first r rules' sequences
+abbrev sequences : List ℕ → ℕ → List ℕ
+sequences g r = blocks r (λ q. sequenceWords (sequencesOf g q))
+
+sequence-length : (g : List ℕ) (q : ℕ) → length (sequenceWords (sequencesOf g q)) ≡ 112
+unfolding sequenceWords sequencesOf
+sequence-length g q = length-padded 112 _ (omega (arith, planned-short g q))
+
+done-length : (g : List ℕ) (r : ℕ) → length (sets g ++ sequences g r) ≡ 256 + 112 * r
+done-length g r =
+    length-append (sets g) (sequences g r)
+    ∙ ap₂ (λ (a b : ℕ). a + b) (length-sets g (idsOf g))
+    (length-blocks 112 r (λ q. sequenceWords (sequencesOf g q)) (λ q h. sequence-length g q) ∙ mul-comm r 112)
+
+pub accepted-length : (g : List ℕ) → length (acceptedPlan g) ≡ 256 + 112 * rules g
+unfolding acceptedPlan planOf
+accepted-length g = done-length g (rules g)
+
+-- the set words and the first r sequences are written
+pub record PlanTo (g offsets s rows entry plan : List ℕ) (r : ℕ) : Type 0 where
+  pub ready : Ordered g offsets s rows (length entry)
+  pub inside : r ≤ rules g
+  pub words : plan ≡ over (sets g ++ sequences g r) entry
+
+pub plan-start : (g offsets s rows lent entry : List ℕ) → Ordered g offsets s rows (length lent) → entry ≡ written lent 0 s
+    → PlanTo g offsets s rows entry entry 0
+unfolding blocks
+plan-start g offsets s rows lent entry w e =
+    let q : entry ≡ over (sets g) lent = e ∙ (first-written s lent ∙ ap (λ (x : List ℕ). over x lent) (w .setsAre)) in
+    record {
+        ready = subst⁻¹ (Ordered g offsets s rows) (ap length q ∙ over-size (sets g) lent (omega (arith, length-sets g (idsOf g), w .planRoom))) w;
+        inside = omega arith;
+        words =
+            q ∙ (sym (over-over (sets g) (sets g) lent (omega arith))
+            ∙ (ap (over (sets g)) (sym q) ∙ ap (λ (x : List ℕ). over x entry) (sym (mathlib.Core.List.append-nil (sets g)))))
+    }
+
+pub write-room : (g offsets s rows : List ℕ) (n : ℕ) → Ordered g offsets s rows n → 0 + length s ≤ n
+write-room g offsets s rows n w = omega (arith, ap length (w .setsAre), length-sets g (idsOf g), w .planRoom)
+
+pub plan-rule : (g offsets s rows entry plan : List ℕ) (r n : ℕ) → PlanTo g offsets s rows entry plan r → n ≡ getD g 1 0 → r < n → r < 64
+plan-rule g offsets s rows entry plan r n w m h = omega (arith, accepted g (w .ready .good) .rulesFit)
+
+pub plan-length : (g offsets s rows entry plan : List ℕ) (r : ℕ) → PlanTo g offsets s rows entry plan r → length plan ≡ length entry
+plan-length g offsets s rows entry plan r w =
+    ap length (w .words)
+    ∙ over-size (sets g ++ sequences g r) entry (omega (arith, done-length g r, w .inside, w .ready .planRoom))
+
+pub plan-kept : (g offsets s rows lent entry plan : List ℕ) (r : ℕ) → Ordered g offsets s rows (length lent) → entry ≡ written lent 0 s
+    → PlanTo g offsets s rows entry plan r → length plan ≡ length lent
+plan-kept g offsets s rows lent entry plan r d e w =
+    plan-length g offsets s rows entry plan r w
+    ∙ (ap length (e ∙ first-written s lent)
+    ∙ over-size s lent (omega (arith, ap length (d .setsAre), length-sets g (idsOf g), d .planRoom)))
+
+-- what the sequence of rule r asks for
+pub plan-given : (g offsets s rows entry plan : List ℕ) (r p n : ℕ) → PlanTo g offsets s rows entry plan r → n ≡ getD g 1 0 → r < n → p ≡ getD offsets r 0
+    → Given g s rows p r
+plan-given g offsets s rows entry plan r p n w m h e =
+    let d = w .ready in
+    let l : r < rules g = omega arith in
+    record {
+        good = d .good;
+        counts = l;
+        starts = offset-is g offsets r p (d .starts) l e;
+        sets = d .setsAre;
+        noncircular = no-idp-cycle g (d .good) (d .noIdpCycle);
+        ordered = no-edp-cycle g (d .good) (d .noEdpCycle);
+        room = d .size;
+        paths = λ o b. ap (λ (x : List ℕ). word x (64 * r + o)) (d .paths) ∙ over-row g (edpPaths g (idsOf g) (setsOf g (idsOf g))) rows r o l b
+    }
+
+pub plan-fits : (g offsets s rows entry plan : List ℕ) (r : ℕ) → PlanTo g offsets s rows entry plan r → 256 + 112 * rules g ≤ length plan
+plan-fits g offsets s rows entry plan r w = omega (arith, plan-length g offsets s rows entry plan r w, w .ready .planRoom)
+
+pub plan-turn : (g offsets s rows entry plan next : List ℕ) (r n : ℕ) → PlanTo g offsets s rows entry plan r → n ≡ getD g 1 0 → r < n
+    → next ≡ written plan (256 + 112 * r) (sequenceWords (sequenceOf g (idsOf g) (setsOf g (idsOf g)) r))
+    → PlanTo g offsets s rows entry next (r + 1)
+unfolding sequencesOf blocks
+plan-turn g offsets s rows entry plan next r n w m h e =
+    let block : List ℕ = sequenceWords (sequencesOf g r) in
+    record {
+        ready = w .ready;
+        inside = omega arith;
+        words =
+            e ∙ (ap₂ (λ (p : List ℕ) (k : ℕ). written p k block) (w .words) (sym (done-length g r))
+            ∙ (over-written (sets g ++ sequences g r) block entry
+            ∙ ap (λ (x : List ℕ). over x entry) (append-assoc (sets g) (sequences g r) block
+            ∙ ap (λ (k : ℕ). sets g ++ sequences g k) (sym (add-one r)))))
+    }
+
+pub plan-finish : (g offsets s rows lent entry plan : List ℕ) (r n : ℕ) → PlanTo g offsets s rows entry plan r → n ≡ getD g 1 0 → n ≤ r
+    → entry ≡ written lent 0 s → plan ≡ over (acceptedPlan g) lent
+unfolding acceptedPlan planOf
+plan-finish g offsets s rows lent entry plan r n w m h e =
+    let k : r ≡ rules g = omega (arith, w .inside) in
+    let q : entry ≡ over (sets g) lent = e ∙ (first-written s lent ∙ ap (λ (x : List ℕ). over x lent) (w .ready .setsAre)) in
+    w .words
+    ∙ (ap (over (sets g ++ sequences g r)) q
+    ∙ (over-over (sets g ++ sequences g r) (sets g) lent (omega (arith, length-append (sets g) (sequences g r)))
+    ∙ ap (λ (k : ℕ). over (sets g ++ sequences g k) lent) k))

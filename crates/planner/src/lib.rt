@@ -1,0 +1,82 @@
+// Planning: a grammar's table in, its sets and visit-sequences out, or the first refusal of 1 to 11 that applies (000, section 7).
+use grammar::Verdict;
+use inducing::Cycle;
+use planning::Planned;
+use refusals::Refusal;
+
+ghost use mathlib.Core.Path.{_≡_};
+ghost use Prim.Native.Nat.{_+_, _*_, _≤_, _<_};
+ghost use lib.ListN.{length};
+ghost use Rattle.grammar.specs.declared.Verdict.the-variants.{Good};
+ghost use Rattle.grammar.specs.Reading.{readTable};
+ghost use Rattle.reader.specs.Offsets.{offsetsFor};
+ghost use Rattle.planning.specs.Buffers.{over};
+ghost use Rattle.planning.specs.Answer as answer;
+ghost use Rattle.planner.specs.Ready as ready;
+
+// 8: room in the rows, then in the plan.
+fn room(words: &[u16], rows: usize, plan: usize) -> Verdict
+    ensures { λ r. ⌜ r ≡ answer.room (now (words .entry)) rows plan ⌝ }
+{
+    let rules = reader::word(words, 1);
+    if rows < 64 * rules {
+        return Verdict::Refused(Refusal::TooShort(0));
+    }
+    if plan < 256 + 112 * rules {
+        return Verdict::Refused(Refusal::TooShort(1));
+    }
+    Verdict::Good
+}
+
+// The plan of an ordered grammar: its set words, then the visit-sequence of each rule.
+fn write_plan(words: &[u16], offsets: &[u16; 64], sets: &[u16; 256], rows: &[u64], plan: &mut [u16])
+    requires { ⌜ ready.Ordered (now words) (now offsets) (now sets) (now rows) (length (now plan)) ⌝ }
+    ensures { λ _. ⌜ now (plan .exit) ≡ over (answer.acceptedPlan (now (words .entry))) (now (plan .entry)) ⌝ }
+{
+    sequencing::write(plan, 0, sets);
+    let count = reader::word(words, 1);
+    for r in 0..count {
+        sequencing::sequence(words, inducing::rule_at(offsets, r), r, sets, rows, plan);
+    }
+}
+
+// What comes after the room: IDP, the sets, EDP and the plan.
+fn plan_relations(words: &[u16], offsets: &[u16; 64], rows: &mut [u64], plan: &mut [u16]) -> Planned
+    requires { ⌜ ready.Read (now words) (now offsets) (length (now rows)) (length (now plan)) ⌝ }
+    ensures { λ r. ⌜ r ≡ answer.answerOf (now (words .entry)) (answer.afterRoom (now (words .entry)) (ready.ids (now (words .entry)))) ⌝ }
+    ensures { λ _. ⌜ now (rows .exit) ≡ answer.rowsAfter (now (words .entry)) (answer.afterRoom (now (words .entry)) (ready.ids (now (words .entry)))) (now (rows .entry)) ⌝ }
+    ensures { λ _. ⌜ now (plan .exit) ≡ answer.planAfter (now (words .entry)) (answer.afterRoom (now (words .entry)) (ready.ids (now (words .entry)))) (now (plan .entry)) ⌝ }
+{
+    let rules = reader::word(words, 1);
+    let ids = inducing::induce(words, offsets, rows);
+    let idp_cycle = inducing::find_cycle(rows, rules);
+    if let Cycle::At(r, o) = idp_cycle {
+        return Planned::Refused(Refusal::CircularIdp(r, o));
+    }
+    let sets = placing::sets_of(words, &ids);
+    extending::extend(words, offsets, &sets, rows);
+    let edp_cycle = inducing::find_cycle(rows, rules);
+    if let Cycle::At(r, o) = edp_cycle {
+        return Planned::Refused(Refusal::CircularEdp(r, o));
+    }
+    write_plan(words, offsets, &sets, rows, plan);
+    Planned::Accepted(256 + 112 * rules)
+}
+
+// Plans a grammar. What a refusal leaves in the buffers is what the definitions say of the outcome.
+pub fn plan(words: &[u16], rows: &mut [u64], plan: &mut [u16]) -> Planned
+    ensures { λ r. ⌜ r ≡ answer.answerOf (now (words .entry)) (answer.outcome (now (words .entry)) (length (now (rows .entry))) (length (now (plan .entry)))) ⌝ }
+    ensures { λ _. ⌜ now (rows .exit) ≡ answer.rowsAfter (now (words .entry)) (answer.outcome (now (words .entry)) (length (now (rows .entry))) (length (now (plan .entry)))) (now (rows .entry)) ⌝ }
+    ensures { λ _. ⌜ now (plan .exit) ≡ answer.planAfter (now (words .entry)) (answer.outcome (now (words .entry)) (length (now (rows .entry))) (length (now (plan .entry)))) (now (plan .entry)) ⌝ }
+{
+    let reading = reader::read(words);
+    let verdict = reading.verdict;
+    if let Verdict::Refused(refusal) = verdict {
+        return Planned::Refused(refusal);
+    }
+    let space = room(words, rows.len(), plan.len());
+    if let Verdict::Refused(refusal) = space {
+        return Planned::Refused(refusal);
+    }
+    plan_relations(words, &reading.offsets, rows, plan)
+}

@@ -1,0 +1,58 @@
+-- `runner::run` meets its contract. Assumes nothing.
+use Rattle.runner.proofs.WholeLaws.{run-planned, run-refused, run-ran}
+use borrow.Author.Needs.{needs}
+use Rattle.runner.proofs.run.Statement.{statement}
+use Rattle.runner.proofs.run.Tie as tie
+use Rattle.runner.proofs.run.Reads as reads
+use Rattle.runner.proofs.run.Lts as lts
+use Rattle.planner.proofs.plan.Reads as plan-reads
+use Rattle.runner.proofs.run_planned.Reads as run-planned-reads
+
+plan-requires : tie.Need-plan-requires
+plan-requires c κs = search needs
+
+enum-known-planned : tie.Need-enum-known-planned
+enum-known-planned c = search needs
+
+same-length : tie.Need-same-length
+same-length c = search needs
+
+same-length-2 : tie.Need-same-length-2
+same-length-2 c = search needs
+
+returns : tie.Need-returns
+returns c = run-refused _ _ _ _ _ _ _ _ _ (c .before .before .before .before .before .before .before .plan .ensures .0) (c .before .before .before .before .before .before .before .plan .ensures .1 .0) (c .before .before .before .before .before .before .before .plan .ensures .1 .1) _ (c .before .planned .given .1)
+
+enum-told : tie.Need-enum-told
+enum-told c = search needs
+
+run-planned-requires : tie.Need-run-planned-requires
+run-planned-requires c κs = run-planned _ (c .before .before .before .before .before .before .before .before .before .before .before .before .before .before .before .args .rows .now) (c .before .before .before .before .before .before .before .before .before .before .before .before .before .before .before .args .plan .now) _ _ _ (c .before .before .before .before .before .before .before .before .plan .ensures .0) (c .before .before .before .before .before .before .before .before .plan .ensures .1 .1) (c .before .before .enum-told .given .1)
+
+same-length-3 : tie.Need-same-length-3
+same-length-3 c = search needs
+
+same-length-4 : tie.Need-same-length-4
+same-length-4 c = search needs
+
+same-length-5 : tie.Need-same-length-5
+same-length-5 c = search needs
+
+returns-2 : tie.Need-returns-2
+returns-2 c = run-ran _ _ _ _ _ _ _ _ _ (c .before .before .before .before .before .before .before .before .before .before .plan .ensures .0) (c .before .before .before .before .before .before .before .before .before .before .plan .ensures .1 .0) (c .before .before .before .before .before .before .before .before .before .before .plan .ensures .1 .1) _ _ _ (c .before .before .before .before .enum-told .given .1) (c .before .run-planned .ensures .0) (c .before .run-planned .ensures .1)
+
+pub run-spec : {M : Type 1} → statement M
+run-spec =
+    tie.close
+    (tie.spec
+    plan-requires
+    enum-known-planned
+    same-length
+    same-length-2
+    returns
+    enum-told
+    run-planned-requires
+    same-length-3
+    same-length-4
+    same-length-5
+    returns-2)

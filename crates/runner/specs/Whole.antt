@@ -1,0 +1,43 @@
+-- Document 01: what a whole run answers and leaves, for every table, tree, length of the buffers and budget.
+-- Assumes nothing.
+use Prim.Native.Nat.{ℕ, _+_, _*_, _≤_}
+use mathlib.Core.Path.{_≡_}
+use mathlib.Core.List.{List}
+use lib.IntN.{ℤ}
+use lib.ListN.{length}
+use Rattle.grammar.specs.declared.Verdict.the-variants.{Good}
+use Rattle.grammar.specs.Table.{rules}
+use Rattle.grammar.specs.Reading.{readTable}
+use Rattle.planning.specs.Answer.{Outcome, accepted, outcome, planAfter}
+use Rattle.trees.specs.Checking.{checkTree}
+use Rattle.running.specs.declared.Ran as R
+use Rattle.running.specs.Sound as sound
+use Rattle.running.specs.Run.{runAnswer, valuesAfter}
+
+-- how far planning comes, and the plan that it leaves
+unfoldable pub came : List ℕ → List ℕ → List ℕ → Outcome
+came g rows plan = outcome g (length rows) (length plan)
+
+abbrev pub leftPlan : List ℕ → List ℕ → List ℕ → List ℕ
+leftPlan g rows plan = planAfter g (came g rows plan) plan
+
+-- what the run answers, and the values that it leaves
+unfoldable pub answer : List ℕ → List ℕ → List ℕ → List ℕ → List ℤ → ℕ → R.Ran
+answer g rows plan t values budget =
+    runAnswer g (leftPlan g rows plan) t (came g rows plan) (checkTree g t (length values)) values budget
+
+unfoldable pub values : List ℕ → List ℕ → List ℕ → List ℕ → List ℤ → ℕ → List ℤ
+values g rows plan t vs budget =
+    valuesAfter g (leftPlan g rows plan) t (came g rows plan) (checkTree g t (length vs)) vs budget
+
+-- the same once p is the plan of an accepted grammar
+abbrev pub treeAnswer : List ℕ → List ℕ → List ℕ → List ℤ → ℕ → R.Ran
+treeAnswer g p t vs budget = runAnswer g p t accepted (checkTree g t (length vs)) vs budget
+
+abbrev pub treeValues : List ℕ → List ℕ → List ℕ → List ℤ → ℕ → List ℤ
+treeValues g p t vs budget = valuesAfter g p t accepted (checkTree g t (length vs)) vs budget
+
+pub record Planned (g p : List ℕ) : Type 0 where
+  pub good : readTable g ≡ Good
+  pub soundPlan : sound.Sound g p
+  pub long : 256 + 112 * rules g ≤ length p

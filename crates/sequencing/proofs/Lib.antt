@@ -1,0 +1,10 @@
+pub mod Makers
+pub mod ReadyLaws
+pub mod OrderSteps
+pub mod RemainsLaws
+pub mod MaskLaws
+pub mod NextLaws
+pub mod CodeLaws
+pub mod StartLaws
+pub mod WritingLaws
+pub mod RowsLaws

@@ -1,0 +1,164 @@
+-- The words of the sequence, action after action: what is written is the start of the construction, and what is left gives its rest.
+-- The block then goes into the plan word by word. Assumes nothing.
+use Prim.Native.Nat.{ℕ, suc, _+_, _*_, _-_, _≤_, _<_}
+use mathlib.Core.Path.{_≡_, refl, sym, _∙_, ap, ap₂}
+use mathlib.Core.List.{List, [], _∷_, _++_, append-assoc}
+use native.Mathlib.Omega.{arith}
+use native.Mathlib.Numerals.{add-one}
+use lib.ListN.{length, getD, set, take, drop, replicate, length-append}
+use lib.Seq.{set-at, take-all, paste, paste-zero, paste-suc, length-paste}
+use Rattle.basics.specs.Lists.{padded}
+use Rattle.bits.specs.Bit as bits
+use Rattle.bits.proofs.CountLaws.{count-le}
+use Rattle.relations.specs.Computed.{idsOf}
+use Rattle.sets.specs.Computed.{setsOf}
+use Rattle.reader.specs.Places.{Shaped}
+use Rattle.reader.proofs.Accessors.{shaped-rule}
+use Rattle.sequences.specs.Actions.{actionsOf}
+use Rattle.sequences.specs.Follows.{follows}
+use Rattle.sequences.specs.Order.{order, sequenceOf}
+use Rattle.sequences.proofs.ActionLaws.{at-most-104}
+use Rattle.planning.specs.Buffers.{sequenceWords}
+use Rattle.sequencing.specs.Given.{Given, written}
+use Rattle.sequencing.specs.Remaining.{remains, remaining, Going, Taken}
+use Rattle.sequencing.specs.Masks.{Few, Started}
+use Rattle.sequencing.proofs.NextLaws.{five-visits}
+use Rattle.sequencing.proofs.StartLaws.{starts-going, starts-all, starts-count}
+
+-- a count is at most 64
+pub count-fits : (s n : ℕ) → n ≡ bits.count 64 s → n ≤ 64
+count-fits s n e = omega (arith, count-le 64 s)
+
+pub counts-fit : (c v l x y z : ℕ) → x ≡ bits.count 64 c → y ≡ bits.count 64 v → z ≡ bits.count 64 l → x + y + z ≤ 192
+counts-fit c v l x y z e f h = omega (arith, count-le 64 c, count-le 64 v, count-le 64 l)
+
+module _ (g s rows : List ℕ) (p r : ℕ) where
+  pub shaped-given : Given g s rows p r → Shaped g p
+  shaped-given given = shaped-rule g r p (given .starts) (given .good) (given .counts)
+
+  pub few-given : Given g s rows p r → Few s
+  few-given given = five-visits g s rows p r given
+
+  -- after j actions, of n
+  pub record Writing (n : ℕ) (block : List ℕ) (c v l w j : ℕ) : Type 0 where
+    pub inside : j ≤ n
+    pub short : n ≤ 104
+    pub left : length (remaining (remains c v l)) + j ≡ n
+    pub going : Going g (idsOf g) s r (remains c v l) w
+    pub out : List ℕ
+    pub outLength : length out ≡ j
+    pub blockIs : block ≡ n ∷ (out ++ replicate (111 - j) 0)
+    pub rest : sequenceOf g (idsOf g) s r
+        ≡ out ++ order (λ a b. follows g (idsOf g) s r a b) (n - j) (remaining (remains c v l))
+
+  pub writing-start : (c v l w n : ℕ) → Given g s rows p r → Started g s p c v l w → n ≡ bits.count 64 c + bits.count 64 v + bits.count 64 l
+      → Writing n (n ∷ replicate 111 0) c v l w 0
+  unfolding sequenceOf
+  writing-start c v l w n given started e =
+      let f : n ≡ length (remaining (remains c v l)) = e ∙ starts-count g s rows p r given c v l w started in
+      let whole : n - 0 ≡ n = omega arith in
+      let a : remaining (remains c v l) ≡ actionsOf g s r = starts-all g s rows p r given c v l w started in
+      record {
+          inside = omega arith;
+          short = omega (arith, ap length a, at-most-104 g s r (five-visits g s rows p r given));
+          left = omega arith;
+          going = starts-going g s rows p r given c v l w started;
+          out = [];
+          outLength = refl;
+          blockIs = refl;
+          rest =
+              sym (ap₂ (λ (m : ℕ) (xs : List ℕ). order (λ a b. follows g (idsOf g) s r a b) m xs) (whole ∙ (f ∙ ap length a)) a)
+      }
+
+  -- some action is left, and its word has room
+  pub writing-left : (n : ℕ) (block : List ℕ) (c v l w j : ℕ) → Writing n block c v l w j → j < n → 1 ≤ length (remaining (remains c v l))
+  writing-left n block c v l w j k h = omega (arith, k .left)
+
+  pub writing-turn : (n : ℕ) (block : List ℕ) (c v l w j a c′ v′ l′ w′ : ℕ) → Writing n block c v l w j → j < n
+      → Taken g (idsOf g) s r (remains c v l) a (remains c′ v′ l′) w′ → Writing n (set block (j + 1) a) c′ v′ l′ w′ (j + 1)
+  writing-turn n block c v l w j a c′ v′ l′ w′ k h t =
+      let more : 111 - j ≡ suc (111 - (j + 1)) = omega (arith, k .short) in
+      let steps : n - j ≡ suc (n - (j + 1)) = omega arith in
+      record {
+          inside = omega arith;
+          short = k .short;
+          left = omega (arith, k .left, t .fewer);
+          going = t .going;
+          out = k .out ++ (a ∷ []);
+          outLength = length-append (k .out) (a ∷ []) ∙ omega (arith, k .outLength);
+          blockIs =
+              ap (λ (b : List ℕ). set b (j + 1) a) (k .blockIs)
+              ∙ (ap (λ (m : ℕ). set (n ∷ (k .out ++ replicate m 0)) (j + 1) a) more
+              ∙ (set-at (n ∷ k .out) 0 (replicate (111 - (j + 1)) 0) a (j + 1) (omega (arith, k .outLength))
+              ∙ ap (λ (b : List ℕ). n ∷ b) (sym (append-assoc (k .out) (a ∷ []) (replicate (111 - (j + 1)) 0)))));
+          rest =
+              k .rest
+              ∙ (ap (λ (m : ℕ). k .out ++ order (λ a b. follows g (idsOf g) s r a b) m (remaining (remains c v l))) steps
+              ∙ (ap (λ (b : List ℕ). k .out ++ b) (t .next (n - (j + 1)))
+              ∙ sym (append-assoc (k .out) (a ∷ []) (order (λ a b. follows g (idsOf g) s r a b) (n - (j + 1)) (remaining (remains c′ v′ l′))))))
+      }
+
+  pub writing-finish : (n : ℕ) (block : List ℕ) (c v l w j : ℕ) → Writing n block c v l w j → n ≤ j
+      → block ≡ sequenceWords (sequenceOf g (idsOf g) s r)
+  unfolding order sequenceWords padded
+  writing-finish n block c v l w j k h =
+      let e : j ≡ n = omega (arith, k .inside) in
+      let z : n - j ≡ 0 = omega arith in
+      let all : sequenceOf g (idsOf g) s r ≡ k .out =
+              k .rest
+              ∙ (ap (λ (m : ℕ). k .out ++ order (λ a b. follows g (idsOf g) s r a b) m (remaining (remains c v l))) z
+              ∙ mathlib.Core.List.append-nil (k .out)) in
+      let f : length (k .out) ≡ n = k .outLength ∙ e in
+      let m : 111 - j ≡ 112 - suc (length (k .out)) = omega (arith, k .outLength) in
+      k .blockIs
+      ∙ (ap (λ (m : ℕ). n ∷ (k .out ++ replicate m 0)) m
+      ∙ (ap (λ (x : ℕ). x ∷ (k .out ++ replicate (112 - suc (length (k .out))) 0)) (sym f)
+      ∙ ap (λ (b : List ℕ). padded 112 (length b ∷ b)) (sym all)))
+
+-- the block is copied
+pub record Copying (entry : List ℕ) (at : ℕ) (block plan : List ℕ) (j : ℕ) : Type 0 where
+  pub inside : j ≤ length block
+  pub room : at + length block ≤ length entry
+  pub planIs : plan ≡ paste entry at block j
+
+pub copying-start : (plan : List ℕ) (at : ℕ) (block : List ℕ) → at + length block ≤ length plan → Copying plan at block plan 0
+copying-start plan at block h = record { inside = omega arith; room = h; planIs = paste-zero plan at block }
+
+pub copying-place : (entry : List ℕ) (at : ℕ) (block plan : List ℕ) (j : ℕ) → Copying entry at block plan j → j < length block → at + j < length plan
+copying-place entry at block plan j w h =
+    omega (arith, w .room, ap length (w .planIs), length-paste entry at block j (omega (arith, w .room)) (omega arith))
+
+pub copying-turn : (entry : List ℕ) (at : ℕ) (block plan : List ℕ) (j : ℕ) → Copying entry at block plan j → j < length block
+    → Copying entry at block (set plan (at + j) (getD block j 0)) (j + 1)
+copying-turn entry at block plan j w h =
+    record {
+        inside = omega arith;
+        room = w .room;
+        planIs =
+            ap (λ (x : List ℕ). set x (at + j) (getD block j 0)) (w .planIs)
+            ∙ (paste-suc entry at block j 0 (omega (arith, w .room)) h
+            ∙ ap (λ (k : ℕ). paste entry at block k) (sym (add-one j)))
+    }
+
+pub copying-length : (entry : List ℕ) (at : ℕ) (block plan : List ℕ) (j : ℕ) → Copying entry at block plan j → length plan ≡ length entry
+copying-length entry at block plan j w =
+    ap length (w .planIs) ∙ length-paste entry at block j (omega (arith, w .room, w .inside)) (w .inside)
+
+pub copying-finish : (entry : List ℕ) (at : ℕ) (block plan : List ℕ) (j : ℕ) → Copying entry at block plan j → length block ≤ j
+    → plan ≡ written entry at block
+unfolding written
+copying-finish entry at block plan j w h =
+    let e : j ≡ length block = omega (arith, w .inside) in
+    w .planIs
+    ∙ (ap (λ (k : ℕ). paste entry at block k) e
+    ∙ (ap (λ (b : List ℕ). take at entry ++ b ++ drop (at + length block) entry) (take-all (length block) block (omega arith))
+    ∙ append-assoc (take at entry) block (drop (at + length block) entry)))
+
+-- the plan with the planner's own sequence
+pub sequence-written : (g s rows : List ℕ) (p r : ℕ) (plan block next : List ℕ) → Given g s rows p r
+    → block ≡ sequenceWords (sequenceOf g (idsOf g) s r) → next ≡ written plan (256 + 112 * r) block
+    → next ≡ written plan (256 + 112 * r) (sequenceWords (sequenceOf g (idsOf g) (setsOf g (idsOf g)) r))
+sequence-written g s rows p r plan block next given e f =
+    f
+    ∙ ap (written plan (256 + 112 * r))
+    (e ∙ ap (λ (x : List ℕ). sequenceWords (sequenceOf g (idsOf g) x r)) (given .sets))

@@ -1,0 +1,31 @@
+-- What the planner's visit-sequence of one rule is made from, and where it is written: "From 256 + 112r: length, actions, zeros."
+-- Assumes nothing.
+use Prim.Native.Nat.{ℕ, _+_, _*_, _≤_, _<_}
+use mathlib.Core.Path.{_≡_}
+use mathlib.Core.List.{List, _++_}
+use lib.ListN.{length, take, drop}
+use Rattle.basics.specs.Lists.{word}
+use Rattle.bits.specs.Bit.{collect}
+use Rattle.grammar.specs.declared.Verdict.the-variants.{Good}
+use Rattle.grammar.specs.Table.{rules, ruleAt}
+use Rattle.grammar.specs.Reading.{readTable}
+use Rattle.relations.specs.Computed.{idsOf}
+use Rattle.sets.specs.Computed.{setsOf}
+use Rattle.ordered.specs.Paper.{CircularIDP, Ordered}
+use Rattle.planning.specs.Answer.{edpPaths}
+
+-- What is known of rule r, which starts at word p: the table is accepted and ordered, s are its set words, and the rows of the rule
+-- hold the paths of its EDP.
+pub record Given (g s rows : List ℕ) (p r : ℕ) : Type 0 where
+  pub good : readTable g ≡ Good
+  pub counts : r < rules g
+  pub starts : p ≡ ruleAt g r
+  pub sets : s ≡ setsOf g (idsOf g)
+  pub noncircular : CircularIDP g → ⊥
+  pub ordered : Ordered g (setsOf g (idsOf g))
+  pub room : 64 * rules g ≤ length rows
+  pub paths : (o : ℕ) → o < 64 → word rows (64 * r + o) ≡ collect 64 (λ b. edpPaths g (idsOf g) (setsOf g (idsOf g)) r o b)
+
+-- a plan with the words from one on replaced by a block, all others as they were
+unfoldable pub written : List ℕ → ℕ → List ℕ → List ℕ
+written plan at block = take at plan ++ (block ++ drop (at + length block) plan)
