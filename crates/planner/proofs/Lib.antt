@@ -1,3 +1,4 @@
 pub mod RoomLaws
 pub mod WriteLaws
 pub mod StageLaws
+pub mod Unique

@@ -1,1 +1,2 @@
 pub mod WholeLaws
+pub mod Unique
