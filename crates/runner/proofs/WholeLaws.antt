@@ -12,16 +12,16 @@ use Rattle.grammar.specs.declared.Verdict.the-variants.{Good, Refused}
 use Rattle.grammar.specs.Limits.{planWords}
 use Rattle.grammar.specs.Table.{rules}
 use Rattle.grammar.specs.Reading.{readTable}
-use Rattle.grammar.proofs.VerdictLaws.{then-first, then-second}
 use Rattle.reader.specs.Offsets.{offsetsFor}
 use Rattle.checking.specs.Walk.{Ready}
 use Rattle.planning.specs.declared.Planned as P
 use Rattle.planning.specs.Buffers.{over}
 use Rattle.planning.specs.Answer.{
-    Outcome, untouched, circularIdp, unordered, accepted, room, afterReading, outcome, answerOf, rowsAfter, planAfter, acceptedPlan
+    Outcome, untouched, circularIdp, unordered, accepted, outcome, answerOf, rowsAfter, planAfter, acceptedPlan
 }
 use Rattle.planning.proofs.Ordered.{IsOrdered, accepted-ordered}
 use Rattle.planner.proofs.RoomLaws.{plan-room}
+use Rattle.planner.proofs.AcceptedLaws.{is-accepted, both-good}
 use Rattle.planner.proofs.WriteLaws.{over-size, accepted-length}
 use Rattle.trees.specs.Checking.{checkTree}
 use Rattle.running.specs.declared.Ran as R
@@ -52,15 +52,7 @@ tree-ran g p t vs budget v r next e f a b =
     let q : checkTree g t (length vs) ≡ Good = sym e ∙ f in
     (a ∙ sym (ap (λ (x : Verdict). runAnswer g p t accepted x vs budget) q), b ∙ sym (ap (λ (x : Verdict). valuesAfter g p t accepted x vs budget) q))
 
--- Planning answers with a number exactly where it accepts.
 module _ (g : List ℕ) where
-  is-accepted : (o : Outcome) (n : ℕ) → P.the-variants.Accepted n ≡ answerOf g o → o ≡ accepted
-  unfolding answerOf
-  is-accepted (untouched k) n e = absurd (let z : _≡_ {A = ℕ} 0 1 = cc in omega arith)
-  is-accepted (circularIdp k) n e = absurd (let z : _≡_ {A = ℕ} 0 1 = cc in omega arith)
-  is-accepted (unordered k) n e = absurd (let z : _≡_ {A = ℕ} 0 1 = cc in omega arith)
-  is-accepted accepted n e = refl
-
   refused-answer : (o : Outcome) (n : Refusal) (p t : List ℕ) (v : Verdict) (vs : List ℤ) (budget : ℕ) → P.the-variants.Refused n ≡ answerOf g o
       → (R.the-variants.Refused n ≡ runAnswer g p t o v vs budget) × (vs ≡ valuesAfter g p t o v vs budget)
   unfolding answerOf runAnswer valuesAfter
@@ -69,20 +61,10 @@ module _ (g : List ℕ) where
   refused-answer (unordered k) n p t v vs budget e = (cc, refl)
   refused-answer accepted n p t v vs budget e = absurd (let z : _≡_ {A = ℕ} 0 1 = cc in omega arith)
 
-  -- where planning accepts, the table is read and the buffers have room
-  read-of : (v : Verdict) → afterReading g v ≡ accepted → v ≡ Good
-  unfolding afterReading
-  read-of Good e = refl
-  read-of (Refused n) e = absurd (let z : _≡_ {A = ℕ} 0 1 = cc in omega arith)
-
-  both-good : (n m : ℕ) → outcome g n m ≡ accepted → (readTable g ≡ Good) × (room g n m ≡ Good)
-  unfolding outcome
-  both-good n m e = let q = read-of _ e in (then-first _ _ q, then-second _ _ q)
-
-  -- and what it wrote is a plan to run
+  -- where planning accepts, what it wrote is a plan to run
   plan-sound : (rows plan : List ℕ) → outcome g (length rows) (length plan) ≡ accepted → Planned g (over (acceptedPlan g) plan)
   plan-sound rows plan e =
-      let b = both-good (length rows) (length plan) e in
+      let b = both-good g (length rows) (length plan) e in
       let o : IsOrdered g = accepted-ordered g (b .0) (length rows) (length plan) (b .1) e in
       let room : planWords (rules g) ≤ length plan = plan-room g (length rows) (length plan) (b .1) in
       record {
@@ -95,7 +77,7 @@ module _ (g : List ℕ) where
       → plan′ ≡ planAfter g (outcome g (length rows) (length plan)) plan → planned ≡ P.the-variants.Accepted n → Planned g plan′
   unfolding planAfter
   run-planned rows plan planned plan′ n answers planIs e =
-      let q = is-accepted (outcome g (length rows) (length plan)) n (sym e ∙ answers) in
+      let q = is-accepted g (outcome g (length rows) (length plan)) n (sym e ∙ answers) in
       subst⁻¹ (Planned g) (planIs ∙ ap (λ (o : Outcome). planAfter g o plan) q) (plan-sound rows plan q)
 
   module _ (rows plan t : List ℕ) (vs : List ℤ) (budget : ℕ) (planned : P.Planned) (rows′ plan′ : List ℕ)
@@ -116,7 +98,7 @@ module _ (g : List ℕ) where
         × ((rows′ ≡ rowsAfter g (came g rows plan) rows) × (plan′ ≡ planAfter g (came g rows plan) plan)))
     unfolding came answer values
     run-ran n r next e a b =
-        let q = is-accepted (outcome g (length rows) (length plan)) n (sym e ∙ answers) in
+        let q = is-accepted g (outcome g (length rows) (length plan)) n (sym e ∙ answers) in
         let v : Verdict = checkTree g t (length vs) in
         (a ∙ (ap (λ (p : List ℕ). runAnswer g p t accepted v vs budget) planIs
         ∙ ap (λ (o : Outcome). runAnswer g (leftPlan g rows plan) t o v vs budget) (sym q)),

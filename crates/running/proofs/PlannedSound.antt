@@ -82,7 +82,7 @@ module _ (g : List ℕ) (good : readTable g ≡ Good) (lent : List ℕ) where
   sets-long = length-sets g (idsOf g)
 
   -- the words of the plan: first the set words, then each rule's block
-  set-words : (j : ℕ) → j < 256 → word p j ≡ word s j
+  pub set-words : (j : ℕ) → j < 256 → word p j ≡ word s j
   unfolding over acceptedPlan planOf
   set-words j h =
       List·getD-append (acceptedPlan g) (drop (length (acceptedPlan g)) lent) 0 j
@@ -106,7 +106,7 @@ module _ (g : List ℕ) (good : readTable g ≡ Good) (lent : List ℕ) where
       ∙ (getD-append-add s (blocks (rules g) (λ r. sequenceWords (sequencesOf g r))) (r * 112 + j) 0
       ∙ getD-blocks 112 (rules g) (λ r. sequenceWords (sequencesOf g r)) 0 blocks-long r j h l))
 
-  numbers-same : (x a : ℕ) → x < 32 → a < 8 → setNumber p x a ≡ setNumber s x a
+  pub numbers-same : (x a : ℕ) → x < 32 → a < 8 → setNumber p x a ≡ setNumber s x a
   unfolding setNumber
   numbers-same x a h l = set-words (8 * x + a) (omega arith)
 
@@ -117,13 +117,13 @@ module _ (g : List ℕ) (good : readTable g ≡ Good) (lent : List ℕ) where
     short : length out ≤ mostActions
     short = planned-short g r
 
-    length-is : sequenceLength p r ≡ length out
+    pub length-is : sequenceLength p r ≡ length out
     unfolding sequenceLength sequencesOf
     length-is =
         let e : 256 + 112 * r ≡ 256 + 112 * r + 0 = omega arith in
         ap (λ (q : ℕ). word p q) e ∙ (block-words r 0 h (omega arith) ∙ block-length out)
 
-    action-is : (j : ℕ) → j < length out → actionAt p r j ≡ getD out j 0
+    pub action-is : (j : ℕ) → j < length out → actionAt p r j ≡ getD out j 0
     unfolding actionAt sequencesOf
     action-is j l =
         let e : 256 + 112 * r + 1 + j ≡ 256 + 112 * r + suc j = omega arith in

@@ -77,7 +77,7 @@ fn last_set(sets: &[u16], x: usize) -> usize
 }
 
 // How many visits symbol x has.
-fn visits_of(sets: &[u16], x: usize) -> usize
+pub fn visits_of(sets: &[u16], x: usize) -> usize
     requires { ⌜ x < 65536 ⌝ }
     ensures { λ r. ⌜ r ≡ visiting.visits (now (sets .entry)) x ⌝ }
     ensures { λ r. ⌜ r < 65536 ⌝ }

@@ -1,0 +1,4 @@
+pub mod ShownLaws
+pub mod LineLaws
+pub mod PlanLaws
+pub mod TableLaws
