@@ -5,3 +5,4 @@ pub mod LowestLaws
 pub mod CountLaws
 pub mod ShiftLaws
 pub mod MemberLaws
+pub mod RestLaws

@@ -113,3 +113,11 @@ pub fn first(set: u64) -> usize
 {
     lowest(set)
 }
+
+// A set that is not empty without its lowest member. One less turns that member off and the places below it on.
+pub fn rest(set: u64) -> u64
+    requires { ⌜ 0 < set ⌝ }
+    ensures { λ r. ⌜ r ≡ sets.remove (sets.lowest 64 set) set ⌝ }
+{
+    set & (set - 1)
+}

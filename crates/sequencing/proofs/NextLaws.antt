@@ -11,7 +11,8 @@ use lib.ListN.{length}
 use Rattle.bits.specs.Bit.{hasb, remove, minus, First}
 use Rattle.bits.proofs.BitLaws.{bit-has, bit-lacks}
 use Rattle.bits.proofs.LowestLaws.{bit-under-lowest}
-use Rattle.bits.proofs.MemberLaws.{hasb-collect, none-left, has-not, has-other, minus-both, both-minus}
+use Rattle.bits.proofs.CollectLaws.{collect-lt}
+use Rattle.bits.proofs.MemberLaws.{hasb-collect, hasb-below, none-left, has-not, has-other, minus-both, both-minus}
 use Rattle.basics.specs.Lists.{word, member}
 use Rattle.basics.proofs.TestLaws.{true-T, false-T, same-or-not, below-or-not}
 use Rattle.basics.proofs.ListLaws.{passing-member}
@@ -19,7 +20,12 @@ use Rattle.grammar.specs.Table.{symbolOf, rules, defining, position}
 use Rattle.relations.specs.Computed.{idsOf}
 use Rattle.sets.specs.Visits.{setNumber, visits}
 use Rattle.sets.proofs.Visits.{visits-five}
+use Rattle.sets.specs.Computed.{setsOf}
 use Rattle.ordered.specs.Computed.{edpPath}
+use Rattle.ordered.specs.Paper.{EDP}
+use Rattle.ordered.proofs.Exact.{edp-path-exact}
+use Rattle.relations.specs.Paper.{Path⁺}
+use Rattle.relations.proofs.PathLaws.{path-join}
 use Rattle.reader.specs.Places.{symbolFrom}
 use Rattle.reader.proofs.Accessors.{symbol-at-rule, rule-fits}
 use Rattle.sequences.specs.Actions.{Action, compute, visit, leave, decode, actionNumbers, inheritedOf, makes}
@@ -36,7 +42,7 @@ use Rattle.sequences.proofs.Planned.{orderly}
 use Rattle.planning.specs.Answer.{edpPaths}
 use Rattle.sequencing.specs.Given.{Given}
 use Rattle.sequencing.specs.Remaining.{remains, remaining, Going, Taken, Done}
-use Rattle.sequencing.specs.Masks.{handedUp, handedDown, readyVisits, Children, Blocked}
+use Rattle.sequencing.specs.Masks.{handedUp, handedDown, readyVisits, Children, Closed, Blocked}
 use Rattle.sequencing.proofs.Makers.{Attribute, odd-of-visit, even-of-visit, visit-odd, visit-even}
 use Rattle.sequencing.proofs.ReadyLaws.{waits-attribute, free-quiet, quiet-free, VisitReady, free-visit, ready-visit, free-leave}
 use Rattle.sequencing.proofs.OrderSteps.{taken}
@@ -365,6 +371,26 @@ module _ (g s rows : List ℕ) (p r : ℕ) where
 
   pub rows-room : Given g s rows p r → 64 * r + 64 ≤ length rows
   rows-room given = omega (arith, given .room, given .counts)
+
+  -- the rows hold all paths, so they are closed
+  pub rows-closed : Given g s rows p r → Closed rows (64 * r)
+  rows-closed given o k b h t u =
+      let l : k < 64 = row-below o h k t in
+      let m : b < 64 = row-below k l b u in
+      subst⁻¹ (λ (x : Bool). T x) (row-path g s rows p r given o b h m)
+      (edp-path-exact g (given .good) s r (lt→ltb r (rules g) (given .counts)) o b .1
+      (path-join (has-path o k h l t) (has-path k b l m u)))
+    where
+      row-below : (o : ℕ) → o < 64 → (k : ℕ) → T (hasb k (word rows (64 * r + o))) → k < 64
+      row-below o h k t =
+          hasb-below 64 k _ (collect-lt 64 (λ b. edpPaths g (idsOf g) (setsOf g (idsOf g)) r o b)) (subst (λ (x : ℕ). T (hasb k x)) (given .paths o h) t)
+      has-path : (o b : ℕ) → o < 64 → b < 64 → T (hasb b (word rows (64 * r + o))) → Path⁺ (EDP g s r) o b
+      has-path o b h m t =
+          edp-path-exact g (given .good) s r (lt→ltb r (rules g) (given .counts)) o b .0
+          (subst (λ (x : Bool). T x) (row-path g s rows p r given o b h m) t)
+
+  pub rows-ready : Given g s rows p r → (64 * r + 64 ≤ length rows) × Closed rows (64 * r)
+  rows-ready given = (rows-room given, rows-closed given)
 
   module _ (c v l w : ℕ) where
     pub children-left : Given g s rows p r → Going g (idsOf g) s r (remains c v l) w → Children g s p v

@@ -75,6 +75,11 @@ visitReady g s p left waiting b =
 unfoldable pub readyVisits : List ℕ → List ℕ → ℕ → ℕ → ℕ → ℕ
 readyVisits g s p left waiting = collect 64 (λ b. hasb b left and visitReady g s p left waiting b)
 
+-- the rows of a rule are closed: what o leads to leads nowhere that o does not
+abbrev pub Closed : List ℕ → ℕ → Type 0
+Closed rows base =
+    (o k b : ℕ) → o < 64 → T (hasb k (word rows (base + o))) → T (hasb b (word rows (base + k))) → T (hasb b (word rows (base + o)))
+
 -- what is blocked are the members of the rows of what waits, and no others
 pub record Blocked (rows : List ℕ) (base waiting blocked : ℕ) : Type 0 where
   pub by : (b : ℕ) → T (hasb b blocked) → (o : ℕ) × T (hasb o waiting) × T (hasb b (word rows (base + o)))

@@ -174,17 +174,18 @@ fn start(words: &[u16], p: usize, sets: &[u16]) -> State
     }
 }
 
-// The occurrences to which a path leads from one that waits.
+// The occurrences to which a path leads from one that waits. Where one that waits leads to another, the other blocks nothing more.
 fn blocked(rows: &[u64], base: usize, waiting: u64) -> u64
     requires { ⌜ base + 64 ≤ length (now rows) ⌝ }
+    requires { ⌜ masks.Closed (now rows) base ⌝ }
     ensures { λ r. ⌜ masks.Blocked (now (rows .entry)) base waiting r ⌝ }
 {
     let mut left = waiting;
     let mut blocked = 0;
     while left != 0 {
-        let o = bits::first(left);
-        left = bits::without(left, o);
-        blocked = bits::union(blocked, rows[base + o]);
+        let row = rows[base + bits::first(left)];
+        blocked = bits::union(blocked, row);
+        left = bits::minus(bits::rest(left), row);
     }
     blocked
 }

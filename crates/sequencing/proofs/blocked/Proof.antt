@@ -1,9 +1,15 @@
 -- `sequencing::blocked` meets its contract. At every turn the set holds the rows of the occurrences that are done; in the end all are done.
 -- The measure is what is left of the waiting ones, as a number. Assumes nothing.
+use Rattle.sequencing.proofs.CodeLaws.{Blocking, blocking-start, blocking-turn, blocking-less, blocking-finish}
 use borrow.Author.Needs.{needs}
-use Rattle.sequencing.proofs.CodeLaws.{Blocking, blocking-start, blocking-turn, blocking-finish, left-less}
 use Rattle.sequencing.proofs.blocked.Statement.{statement}
 use Rattle.sequencing.proofs.blocked.Tie as tie
+use Rattle.sequencing.proofs.blocked.Reads as reads
+use Rattle.sequencing.proofs.blocked.Lts as lts
+use Rattle.bits.proofs.first.Reads as first-reads
+use Rattle.bits.proofs.minus.Reads as minus-reads
+use Rattle.bits.proofs.rest.Reads as rest-reads
+use Rattle.bits.proofs.union.Reads as union-reads
 
 abbrev Inv-loop : tie.InvT-loop
 Inv-loop rows base waiting left₀ blocked₀ left blocked = Blocking rows base waiting left blocked
@@ -12,31 +18,34 @@ abbrev μ-loop : tie.MeasureT-loop
 μ-loop rows base waiting left₀ blocked₀ left blocked = left
 
 loop-holds : tie.Need-loop-holds Inv-loop μ-loop
-loop-holds c = search blocking-start
+loop-holds c = blocking-start _ _ _ (c .before .pre)
 
 first-requires : tie.Need-first-requires Inv-loop μ-loop
 first-requires c κs = search needs
 
-without-requires : tie.Need-without-requires Inv-loop μ-loop
-without-requires c κs = search needs
+add-row : tie.Need-add-row Inv-loop μ-loop
+add-row c = search needs
 
-add-union : tie.Need-add-union Inv-loop μ-loop
-add-union c = search needs
+mul-row : tie.Need-mul-row Inv-loop μ-loop
+mul-row c = search needs
 
-mul-union : tie.Need-mul-union Inv-loop μ-loop
-mul-union c = search needs
-
-shared-slice-read-union : tie.Need-shared-slice-read-union Inv-loop μ-loop
-shared-slice-read-union c = search needs
+shared-slice-read-row : tie.Need-shared-slice-read-row Inv-loop μ-loop
+shared-slice-read-row c = search needs
 
 union-requires : tie.Need-union-requires Inv-loop μ-loop
 union-requires c κs = search needs
 
+rest-requires : tie.Need-rest-requires Inv-loop μ-loop
+rest-requires c κs = search needs
+
+minus-requires : tie.Need-minus-requires Inv-loop μ-loop
+minus-requires c κs = search needs
+
 loop-less : tie.Need-loop-less Inv-loop μ-loop
-loop-less c = search left-less
+loop-less c = blocking-less _ _ _ _ _ (c .before .before .before .before .first .ensures) (c .before .rest .ensures) (c .minus .ensures)
 
 loop-again : tie.Need-loop-again Inv-loop μ-loop
-loop-again c = search blocking-turn
+loop-again c = blocking-turn _ _ _ _ _ _ _ _ _ (c .before .before .before .before .before .before .loop .inv) (c .before .before .before .before .first .ensures) (c .before .rest .ensures) (c .minus .ensures) (c .before .before .union .ensures)
 
 returns : tie.Need-returns Inv-loop μ-loop
 returns c = search blocking-finish
@@ -49,11 +58,12 @@ blocked-spec =
     μ-loop
     loop-holds
     first-requires
-    without-requires
-    add-union
-    mul-union
-    shared-slice-read-union
+    add-row
+    mul-row
+    shared-slice-read-row
     union-requires
+    rest-requires
+    minus-requires
     loop-less
     loop-again
     returns)

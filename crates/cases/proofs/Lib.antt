@@ -1,0 +1,9 @@
+pub mod FirstLaws
+pub mod PassedLaws
+pub mod TableRefusals
+pub mod TableTests
+pub mod TreeTests
+pub mod PlanTests
+pub mod RunTests
+pub mod Refusals
+pub mod Leaves

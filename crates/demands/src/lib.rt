@@ -1,0 +1,1 @@
+// The three demands, and what they rest on: proofs/Demands.
