@@ -1,6 +1,23 @@
 //! Seeded random cases: tables of many kinds, whole and damaged, lent buffers around their limits, trees valid and damaged, budgets.
 
-use crate::grammar::arity;
+use crate::grammar::{arity, Grammar};
+
+/// Document 01's table G.
+pub const G: [u16; 48] = [
+    3, 3, 0, 0, 1, 0, 0, 3, 2, 1, 1, 0, 0, 1, 1, 2, 0, 1, 10, 9, 1, 8, 1, 2, 2, 1, 3, 0, 4, 8, 16, 17, 1, 1, 2, 1, 18, 1, 1, 2, 2,
+    0, 1, 8, 2, 6, 8, 1,
+];
+
+/// G's tree of so many lines: 1 + 2 nodes a line.
+pub fn lines(count: usize) -> Vec<u16> {
+    let mut out = vec![0, 1, 0, 0, 0, 0, 0, 0];
+    for k in 1..=count {
+        let n = (2 * k) as u16;
+        out.extend(if k < count { [1, n, n + 1, 0, 0, 0, 0, 0] } else { [2, n, 0, 0, 0, 0, 0, 0] });
+        out.extend([32770, 0, 0, 0, 0, 0, 0, 0]);
+    }
+    out
+}
 
 /// A small generator of numbers (xorshift), so that a seed names a case for good.
 pub struct Rng(u64);
@@ -65,6 +82,36 @@ pub struct Table {
 }
 
 impl Table {
+    /// The parts of words that can be read, else none.
+    pub fn read(words: &[u16]) -> Option<Table> {
+        let g = Grammar::read(words).ok()?;
+        let symbols = g.symbols.iter().map(|s| (s.terminal as usize, s.attributes, s.inherited as usize)).collect();
+        let function = |f: &crate::grammar::Function| Function {
+            target: f.target as usize,
+            op: f.op as usize,
+            args: f.args[..arity(f.op as usize)].to_vec(),
+        };
+        let rule = |r: &crate::grammar::Rule| Rule { symbols: r.symbols.clone(), functions: r.functions.iter().map(function).collect() };
+        Some(Table { start: g.start, symbols, rules: g.rules.iter().map(rule).collect() })
+    }
+
+    /// Whether each symbol stands in some tree of the start symbol.
+    pub fn reduced(&self) -> bool {
+        let mut ends: Vec<bool> = self.symbols.iter().map(|s| s.0 == 1).collect();
+        let mut used = vec![false; self.symbols.len()];
+        used[self.start] = true;
+        for _ in 0..self.symbols.len() {
+            for rule in &self.rules {
+                let (left, right) = (rule.symbols[0], &rule.symbols[1..]);
+                ends[left] |= right.iter().all(|&x| ends[x]);
+                if used[left] {
+                    right.iter().for_each(|&x| used[x] = true);
+                }
+            }
+        }
+        ends.iter().zip(&used).all(|(&e, &u)| e && u)
+    }
+
     pub fn words(&self) -> Vec<u16> {
         let mut out = vec![self.symbols.len() as u16, self.rules.len() as u16, self.start as u16];
         for &(kind, count, mask) in &self.symbols {
@@ -92,16 +139,20 @@ struct Shape {
     right: usize,
     /// Arguments are drawn only from earlier positions and lower attributes, once in so many.
     tame: usize,
+    /// Each attribute has a phase, and arguments are of lower phases: seldom cyclic, often several visits.
+    layered: bool,
 }
 
 fn shape(rng: &mut Rng) -> Shape {
+    let layered = rng.once_in(3);
     match rng.below(40) {
-        0 => Shape { symbols: 32, rules: 64, attributes: 8, right: 7, tame: 1 },
-        1 | 2 => Shape { symbols: 8, rules: 20, attributes: 8, right: 7, tame: 1 },
-        3..=5 => Shape { symbols: 5, rules: 8, attributes: 6, right: 4, tame: 1 },
-        6..=11 => Shape { symbols: 2, rules: 3, attributes: 3, right: 2, tame: 2 },
-        12..=17 => Shape { symbols: 4, rules: 5, attributes: 4, right: 3, tame: 2 },
-        _ => Shape { symbols: 4, rules: 5, attributes: 4, right: 3, tame: 1 },
+        0 => Shape { symbols: 32, rules: 64, attributes: 8, right: 7, tame: 1, layered },
+        1 | 2 => Shape { symbols: 8, rules: 20, attributes: 8, right: 7, tame: 1, layered },
+        3..=5 => Shape { symbols: 5, rules: 8, attributes: 6, right: 4, tame: 1, layered },
+        6..=11 => Shape { symbols: 2, rules: 3, attributes: 3, right: 2, tame: 2, layered },
+        12..=17 => Shape { symbols: 4, rules: 5, attributes: 4, right: 3, tame: 2, layered },
+        18..=20 => Shape { symbols: 3, rules: 4, attributes: 8, right: 3, tame: 1, layered: true },
+        _ => Shape { symbols: 4, rules: 5, attributes: 4, right: 3, tame: 1, layered },
     }
 }
 
@@ -129,18 +180,24 @@ pub fn table(rng: &mut Rng) -> Table {
     }
     let shape = shape(rng);
     let count = rng.between(1, shape.symbols);
+    // A chain: the attributes alternate between the classes and depend on each other in order, up to five visits.
+    let chain = shape.layered && rng.once_in(2);
+    let odd = rng.below(2);
     let mut symbols = vec![(0, rng.below(shape.attributes.min(3) + 1), 0)];
     for _ in 1..count {
         let attributes = rng.below(shape.attributes + 1);
         if rng.once_in(4) {
             symbols.push((1, attributes, 0));
         } else {
-            let mask = rng.below(1 << attributes);
-            symbols.push((0, attributes, mask));
+            let mask = if chain { 0x55 << odd } else { rng.next() as usize };
+            symbols.push((0, attributes, mask & ((1 << attributes) - 1)));
         }
     }
     let nonterminals: Vec<usize> = (0..count).filter(|&x| symbols[x].0 == 0).collect();
-    let number = rng.between(nonterminals.len().min(shape.rules), shape.rules);
+    let number = if rng.once_in(3) { shape.rules } else { rng.between(nonterminals.len().min(shape.rules), shape.rules) };
+    // Elsewhere the phases of the two classes are even and odd.
+    let mut phase = |a: usize, mask: usize| if chain { a } else { 2 * rng.below(5) + (mask >> a & 1 == odd) as usize };
+    let phases: Vec<Vec<usize>> = symbols.iter().map(|s| (0..s.1).map(|a| phase(a, s.2)).collect()).collect();
     let sparse = rng.below(4);
     let mut rules = Vec::with_capacity(number);
     for r in 0..number {
@@ -150,12 +207,20 @@ pub fn table(rng: &mut Rng) -> Table {
         for _ in 0..n {
             parts.push(rng.below(count));
         }
-        rules.push(rule(rng, &symbols, parts, shape.tame, sparse));
+        let phases = shape.layered.then_some(&phases[..]);
+        rules.push(rule(rng, &symbols, parts, shape.tame, sparse, phases));
     }
     Table { start: 0, symbols, rules }
 }
 
-fn rule(rng: &mut Rng, symbols: &[(usize, usize, usize)], parts: Vec<usize>, tame: usize, sparse: usize) -> Rule {
+fn rule(
+    rng: &mut Rng,
+    symbols: &[(usize, usize, usize)],
+    parts: Vec<usize>,
+    tame: usize,
+    sparse: usize,
+    phases: Option<&[Vec<usize>]>,
+) -> Rule {
     let mut occurrences = Vec::new();
     let mut defining = Vec::new();
     for (i, &x) in parts.iter().enumerate() {
@@ -172,7 +237,10 @@ fn rule(rng: &mut Rng, symbols: &[(usize, usize, usize)], parts: Vec<usize>, tam
     }
     let mut functions = Vec::with_capacity(defining.len());
     for &target in &defining {
-        let allowed: Vec<usize> = if rng.once_in(tame) {
+        let allowed: Vec<usize> = if let Some(phases) = phases {
+            let phase = |o: usize| phases[parts[o / 8]][o % 8];
+            occurrences.iter().copied().filter(|&o| phase(o) < phase(target)).collect()
+        } else if rng.once_in(tame) {
             // Only what a walk from left to right has by then: mostly ordered.
             let rank = |o: usize| if symbols[parts[o / 8]].2 >> (o % 8) & 1 == 1 && o < 8 { 0 } else { 1 + o };
             let goal = if target < 8 { 1000 + target } else { 1 + target };
@@ -182,16 +250,106 @@ fn rule(rng: &mut Rng, symbols: &[(usize, usize, usize)], parts: Vec<usize>, tam
         };
         let constant = allowed.is_empty() || rng.below(4) < sparse;
         let op = if constant { 0 } else { rng.between(1, 8) };
+        let argument = |rng: &mut Rng| {
+            let (a, b) = (*rng.pick(&allowed), *rng.pick(&allowed));
+            // The later of two makes longer chains.
+            let phase = |o: usize| phases.map_or(0, |p| p[parts[o / 8]][o % 8]);
+            if phase(a) < phase(b) { b } else { a }
+        };
         let args = (0..arity(op))
-            .map(|_| if op == 0 { if rng.once_in(2) { rng.below(10) as u16 } else { rng.next() as u16 } } else { *rng.pick(&allowed) as u16 })
+            .map(|_| if op == 0 { if rng.once_in(2) { rng.below(10) as u16 } else { rng.next() as u16 } } else { argument(rng) as u16 })
             .collect();
         functions.push(Function { target, op, args });
     }
     Rule { symbols: parts, functions }
 }
 
+/// The longest ordered table, 25,123 words: every occurrence of 64 rules of length 7 is defined, all but one of a rule by four arguments.
+pub fn longest() -> Table {
+    let mut symbols = vec![(0, 8, 0), (0, 8, 255)];
+    symbols.resize(32, (1, 0, 0));
+    let order: Vec<usize> = (8..64).chain(0..8).collect();
+    let functions = (0..64)
+        .map(|k| {
+            let args = if k == 0 { vec![0] } else { [k - 1, k / 2, k / 3, k * 3 / 4].iter().map(|&j| order[j.min(k - 1)] as u16).collect() };
+            Function { target: order[k], op: if k == 0 { 0 } else { 8 }, args }
+        })
+        .collect();
+    let rule = Rule { symbols: vec![0, 1, 1, 1, 1, 1, 1, 1], functions };
+    Table { start: 0, symbols, rules: vec![rule; 64] }
+}
+
+/// Rules of one length over a nonterminal whose eight attributes take five visits: synthesized at even places, inherited at odd ones, each from the
+/// one before. Its children go through the visits side by side. The last rule ends a tree, the one before it continues with one child.
+pub fn five_visits(rules: usize, right: usize, attributes: usize) -> Table {
+    let mask = 0xaa & ((1 << attributes) - 1);
+    let symbols = vec![(0, 1, 0), (0, attributes, mask)];
+    let function = |target: usize, from: &[usize]| match from {
+        [] => Function { target, op: 0, args: vec![target as u16] },
+        [a] => Function { target, op: 1, args: vec![*a as u16] },
+        [a, b] => Function { target, op: 2, args: vec![*a as u16, *b as u16] },
+        [a, b, c] => Function { target, op: 7, args: vec![*a as u16, *b as u16, *c as u16] },
+        [a, b, c, d, ..] => Function { target, op: 8, args: vec![*a as u16, *b as u16, *c as u16, *d as u16] },
+    };
+    let rule = |left: usize, n: usize| {
+        let mut functions = Vec::new();
+        for a in 0..attributes {
+            // Attribute a of the left side and of each child, from what the phase before has.
+            let places: Vec<usize> = (1..=n).map(|i| 8 * i).collect();
+            if a % 2 == 1 {
+                for &p in &places {
+                    let mut from: Vec<usize> = if left == 1 { vec![a] } else { vec![] };
+                    from.extend(places.iter().map(|q| q + a - 1));
+                    functions.push(function(p + a, &from));
+                }
+            } else if left == 1 {
+                let mut from: Vec<usize> = places.iter().map(|q| q + a).collect();
+                if a > 0 {
+                    from.insert(0, a - 1);
+                }
+                functions.push(function(a, &from));
+            }
+        }
+        if left == 0 {
+            let last = attributes - 1 - (attributes - 1) % 2;
+            functions.push(function(0, &[8 + last]));
+        }
+        Rule { symbols: [vec![left], vec![1; n]].concat(), functions }
+    };
+    let mut all = vec![rule(0, 1)];
+    all.resize_with(rules.saturating_sub(2).max(1), || rule(1, right));
+    if rules > 2 {
+        all.push(rule(1, 1));
+    }
+    if rules > 1 {
+        all.push(rule(1, 0));
+    }
+    Table { start: 0, symbols, rules: all }
+}
+
+/// A tree of such a table, level by level: rule 0 at the root, rule 1 with `right` children while so many nodes are left, then the rule with one, then the last.
+pub fn five_visits_tree(nodes: usize, rules: usize, right: usize) -> Vec<u16> {
+    let (one, none) = (rules as u16 - 2, rules as u16 - 1);
+    let mut out = vec![0; 8 * nodes];
+    out[1] = 1;
+    let mut next = 2;
+    for n in 1..nodes {
+        let children = if nodes - next >= right { right } else { (nodes - next).min(1) };
+        out[8 * n] = match children {
+            0 => none,
+            1 => one,
+            _ => 1,
+        };
+        for i in 1..=children {
+            out[8 * n + i] = next as u16;
+            next += 1;
+        }
+    }
+    out
+}
+
 /// A whole input: a table, lent buffers with garbage in them, a tree with values, and a budget.
-#[derive(Clone)]
+#[derive(Clone, PartialEq)]
 pub struct Case {
     pub words: Vec<u16>,
     pub rows: Vec<u64>,
@@ -367,4 +525,86 @@ fn value(rng: &mut Rng) -> i32 {
         2 => rng.next() as i32,
         _ => rng.below(20) as i32 - 10,
     }
+}
+
+/// The budgets around a run's total, and the ends of their range.
+pub fn budgets(total: u32) -> [u32; 6] {
+    [0, 1, total.saturating_sub(1), total, total + 1, u32::MAX]
+}
+
+/// An ordered table with a tree of it and exactly enough room.
+fn sound(rng: &mut Rng, most: usize) -> Case {
+    loop {
+        let t = table(rng);
+        let words = t.words();
+        let (mut rows, mut plan) = (vec![0; 64 * t.rules.len()], vec![0; 256 + 112 * t.rules.len()]);
+        if words.len() > 400 || crate::plan(&words, &mut rows, &mut plan).is_err() {
+            continue;
+        }
+        let Some(tree) = tree(rng, &t, most) else { continue };
+        if tree.len() < 24 && !rng.once_in(20) {
+            continue;
+        }
+        rows.iter_mut().for_each(|w| *w = rng.next());
+        plan.iter_mut().for_each(|w| *w = rng.next() as u16);
+        let values = (0..tree.len()).map(|_| value(rng)).collect();
+        return Case { words, rows, plan, tree, values, budget: u32::MAX };
+    }
+}
+
+/// All that one sound case becomes when each of its words is changed, and cut off there, and each length is moved around its limit.
+/// They come in a fixed order, so that a seed and a count name one.
+pub fn variations(seed: u64, mut visit: impl FnMut(Case)) {
+    let mut rng = Rng::new(seed ^ 0x5eed_0000_0000);
+    let base = sound(&mut rng, 14);
+    for at in 0..base.words.len() {
+        let old = base.words[at];
+        visit(Case { words: base.words[..at].to_vec(), ..base.clone() });
+        for new in [0, 1, 7, 8, 9, 31, 63, 64, 65, 255, 256, 65535, old.wrapping_add(1), old.wrapping_sub(1), old.wrapping_add(8), old ^ 0x100] {
+            let mut c = base.clone();
+            c.words[at] = new;
+            visit(c);
+        }
+        let (mut less, mut more) = (base.clone(), base.clone());
+        less.words.remove(at);
+        more.words.insert(at, rng.below(10) as u16);
+        visit(less);
+        visit(more);
+    }
+    let nodes = base.tree.len() / 8;
+    for at in 0..base.tree.len() {
+        let old = base.tree[at];
+        visit(Case { tree: base.tree[..at].to_vec(), ..base.clone() });
+        let node = (at / 8) as u16;
+        let others = [0, 1, 2, node, node + 1, nodes as u16 - 1, nodes as u16, 32767, 32768, 32769, 32799, 32800, 65535];
+        for new in others.into_iter().chain([old.wrapping_add(1), old.wrapping_sub(1), old ^ 0x8000]) {
+            let mut c = base.clone();
+            c.tree[at] = new;
+            visit(c);
+        }
+        // Two slots of one node exchanged, or two first words.
+        let mut c = base.clone();
+        c.tree.swap(at, if at % 8 == 0 { 8 * rng.below(nodes) } else { at / 8 * 8 + 1 + rng.below(7) });
+        visit(c);
+    }
+    for (rows, plan, values) in lengths(base.rows.len(), base.plan.len(), base.values.len()) {
+        let mut c = base.clone();
+        c.rows.resize(rows, 0x0123_4567_89ab_cdef);
+        c.plan.resize(plan, 0xa5a5);
+        c.values.resize(values, -77);
+        visit(c);
+    }
+}
+
+/// Each length at its limit and around it while the others have room, then all three together.
+fn lengths(rows: usize, plan: usize, values: usize) -> Vec<(usize, usize, usize)> {
+    let near = |limit: usize| [0, 1, limit / 2, limit - 2, limit - 1, limit, limit + 1, limit + 2, limit + 63, limit + 112];
+    let mut out = Vec::new();
+    for i in 0..10 {
+        out.extend([(near(rows)[i], plan, values), (rows, near(plan)[i], values), (rows, plan, near(values)[i])]);
+        for j in 3..8 {
+            out.extend([(near(rows)[i], near(plan)[j], values), (rows, near(plan)[i], near(values)[j])]);
+        }
+    }
+    out
 }

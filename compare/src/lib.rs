@@ -4,7 +4,9 @@
 pub mod cases;
 pub mod grammar;
 pub mod plan;
+pub mod proved;
 pub mod run;
+pub mod shrink;
 
 /// A refusal: document 01's number, place and second place.
 #[derive(Debug, Clone, Copy, PartialEq, Eq)]

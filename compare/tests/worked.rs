@@ -1,11 +1,7 @@
 //! Document 01's worked examples, on the independent implementation.
 
+use independent::cases::G;
 use independent::{plan, run, Ran, Refusal};
-
-const G: [u16; 48] = [
-    3, 3, 0, 0, 1, 0, 0, 3, 2, 1, 1, 0, 0, 1, 1, 2, 0, 1, 10, 9, 1, 8, 1, 2, 2, 1, 3, 0, 4, 8, 16, 17, 1, 1, 2, 1, 18, 1, 1, 2, 2,
-    0, 1, 8, 2, 6, 8, 1,
-];
 
 fn planned(words: &[u16]) -> Result<Vec<u16>, Refusal> {
     let mut rows = vec![0; 4096];

@@ -1,0 +1,182 @@
+//! Every example of docs/MANUAL.md: its cases are run through the exported functions, its other blocks are compared with what they show.
+
+use independent::cases::{lines, G};
+use independent::{proved, Ran, Refusal};
+use std::process::Command;
+
+const MANUAL: &str = include_str!("../../docs/MANUAL.md");
+/// What lent buffers hold before a call, so that what is left as found shows.
+const ROW: u64 = 0x7777_7777_7777_7777;
+const WORD: u16 = 0x7777;
+
+/// The fenced blocks: what stands after the fence, and the lines.
+fn blocks() -> Vec<(&'static str, Vec<&'static str>)> {
+    let mut out: Vec<(&str, Vec<&str>)> = Vec::new();
+    let mut inside = false;
+    for line in MANUAL.lines() {
+        if let Some(kind) = line.strip_prefix("```") {
+            inside = !inside;
+            if inside {
+                assert!(!kind.is_empty(), "a block that says nothing of its kind");
+                out.push((kind, Vec::new()));
+            }
+        } else if inside {
+            out.last_mut().unwrap().1.push(line);
+        }
+    }
+    assert!(!inside, "a block that does not end");
+    out
+}
+
+fn numbers<T: std::str::FromStr>(text: &str) -> Vec<T> {
+    let plain = text.replace(['|', ','], " ");
+    plain.split_whitespace().map(|n| n.parse().unwrap_or_else(|_| panic!("no number: {n}"))).collect()
+}
+
+/// `at = value`.
+fn setting<T: std::str::FromStr>(text: &str) -> (usize, T) {
+    let (at, value) = text.split_once('=').unwrap_or_else(|| panic!("not a setting: {text}"));
+    (numbers(at)[0], numbers(value).pop().unwrap())
+}
+
+fn table(text: &str) -> Vec<u16> {
+    if text == "G" { G.to_vec() } else { numbers(text) }
+}
+
+fn told(answer: Result<(&str, usize), Refusal>) -> String {
+    match answer {
+        Ok((how, count)) => format!("{how} {count}"),
+        Err(r) => format!("refused {} {} {}", r.number, r.place, r.second),
+    }
+}
+
+/// Runs one case and checks its answer, what it lists, and what its refusal leaves.
+fn check(lines: &[&str]) {
+    let entries: Vec<(&str, &str)> = lines.iter().map(|l| l.split_once(' ').map_or((*l, ""), |(k, v)| (k, v.trim()))).collect();
+    let all = |key: &str| entries.iter().filter(|e| e.0 == key).map(|e| e.1).collect::<Vec<_>>();
+    let one = |key: &str| all(key).first().copied();
+    let count = |key: &str, other: usize| one(key).map_or(other, |n| n.parse().unwrap());
+    for (key, _) in &entries {
+        assert!(["table", "tree", "rows", "plan", "values", "budget", "set", "gives", "row", "word", "value"].contains(key), "no such line: {key}");
+    }
+    let words = table(one("table").expect("a case has a table"));
+    let rules = words.get(1).map_or(0, |&n| n as usize);
+    let mut rows = vec![ROW; count("rows", 64 * rules)];
+    let mut plan = vec![WORD; count("plan", 256 + 112 * rules)];
+    let (mut planned_rows, mut planned) = (rows.clone(), plan.clone());
+    let answer = proved::plan(&words, &mut planned_rows, &mut planned);
+    let mut values = Vec::new();
+    let answer = if let Some(text) = one("tree") {
+        let tree: Vec<u16> = numbers(text);
+        values = vec![0i32; count("values", tree.len())];
+        for (at, v) in all("set").into_iter().map(setting) {
+            values[at] = v;
+        }
+        let found = values.clone();
+        let budget = count("budget", u32::MAX as usize) as u32;
+        let ran = proved::run(&words, &mut rows, &mut plan, &tree, &mut values, budget);
+        assert!(ran.is_ok() || values == found, "a refusal leaves the values");
+        assert!(rows == planned_rows && plan == planned, "a run plans first");
+        ran.map(|ran| match ran {
+            Ran::Done(n) => ("done", n as usize),
+            Ran::Stopped(n) => ("stopped", n as usize),
+        })
+    } else {
+        answer.map(|n| ("accepted", n))
+    };
+    assert_eq!(told(answer), one("gives").expect("a case gives something"), "of {lines:?}");
+    if let Err(r) = answer {
+        assert!(r.number > 8 || planned_rows.iter().all(|&w| w == ROW), "1 to 8 leave the rows");
+        assert!(r.number > 11 || planned.iter().all(|&w| w == WORD), "1 to 11 leave the plan");
+    }
+    for (at, v) in all("row").into_iter().map(setting::<u64>) {
+        assert_eq!(planned_rows[at], v, "row {at} of {lines:?}");
+    }
+    for (at, v) in all("word").into_iter().map(setting::<u16>) {
+        assert_eq!(planned[at], v, "word {at} of {lines:?}");
+    }
+    for (at, v) in all("value").into_iter().map(setting::<i32>) {
+        assert_eq!(values[at], v, "value {at} of {lines:?}");
+    }
+}
+
+/// The listing of a table that is accepted, as document 01 prints it.
+fn listing(words: &[u16]) -> Vec<String> {
+    let (symbols, rules) = (words[0] as usize, words[1] as usize);
+    let mut plan = vec![0; 256 + 112 * rules];
+    proved::plan(words, &mut vec![0; 64 * rules], &mut plan).unwrap();
+    let join = |numbers: &[u16]| numbers.iter().map(|n| format!(" {n}")).collect::<String>();
+    let mut out = vec![format!("plan {symbols} {rules}")];
+    for x in 0..symbols {
+        let (kind, attributes) = (words[3 + 3 * x], words[4 + 3 * x] as usize);
+        if kind == 0 {
+            let sets = &plan[8 * x..8 * x + attributes];
+            let visits = sets.iter().max().map_or(1, |m| m.div_ceil(2).max(1));
+            out.push(format!("s {x} {visits}{}", join(sets)));
+        }
+    }
+    for r in 0..rules {
+        let at = 256 + 112 * r;
+        out.push(format!("r {r}{}", join(&plan[at + 1..at + 1 + plan[at] as usize])));
+    }
+    out
+}
+
+#[test]
+fn every_block_is_true() {
+    let root = concat!(env!("CARGO_MANIFEST_DIR"), "/..");
+    let mut numbers_given = [false; 19];
+    for (kind, lines) in blocks() {
+        let (kind, of) = kind.split_once(' ').unwrap_or((kind, ""));
+        match kind {
+            "case" => {
+                check(&lines);
+                let gives: Vec<&str> = lines.iter().find(|l| l.starts_with("gives")).unwrap().split_whitespace().collect();
+                if gives[1] == "refused" {
+                    numbers_given[gives[2].parse::<usize>().unwrap()] = true;
+                }
+            }
+            "table" => assert_eq!(numbers::<u16>(&lines.join(" ")), table(of)),
+            "listing" => assert_eq!(lines, listing(&table(of))),
+            "file" => {
+                let file = std::fs::read_to_string(format!("{root}/{of}")).unwrap_or_else(|e| panic!("{of}: {e}"));
+                assert!(file.contains(&lines.join("\n")), "{of} does not have these lines: {lines:?}");
+            }
+            "sh" => {
+                let out = Command::new("sh").current_dir(root).args(["-c", &lines.join("\n")]).output().unwrap();
+                assert_eq!(numbers::<u16>(&String::from_utf8(out.stdout).unwrap()), G);
+            }
+            _ => panic!("a block of no known kind: {kind}"),
+        }
+    }
+    for (number, given) in numbers_given.iter().enumerate().skip(1) {
+        assert_eq!(*given, number != 11, "refusal {number} has an example");
+    }
+}
+
+#[test]
+fn g_is_taken_apart_whole() {
+    let section = MANUAL.split("## G, word by word").nth(1).unwrap().split("\n\nAttribute").next().unwrap();
+    let mut words: Vec<u16> = Vec::new();
+    for row in section.lines().filter(|l| l.starts_with("| ") && l.as_bytes()[2].is_ascii_digit()) {
+        let cells: Vec<&str> = row.split('|').map(str::trim).collect();
+        assert_eq!(numbers::<usize>(cells[1]), [words.len()], "where {row} begins");
+        words.extend(numbers::<u16>(cells[2]));
+    }
+    assert_eq!(words, G);
+}
+
+#[test]
+fn lending_from_rust() {
+    let tree = lines(2);
+    let mut rows = [0u64; 64 * 3];
+    let mut plan = [0u16; 256 + 112 * 3];
+    let mut values = [0i32; 40];
+    (values[16], values[32]) = (3, 5);
+    match proved::run(&G, &mut rows, &mut plan, &tree, &mut values, u32::MAX) {
+        Ok(Ran::Done(actions)) => println!("value {}, {actions} actions", values[0]),
+        Ok(Ran::Stopped(actions)) => println!("stopped after {actions} actions"),
+        Err(refusal) => println!("refused {} {} {}", refusal.number, refusal.place, refusal.second),
+    }
+    assert_eq!(values[0], 0);
+}
