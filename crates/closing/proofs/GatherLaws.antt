@@ -1,22 +1,36 @@
 -- The arcs at a position are gathered one attribute after the other: eight bits of its row, put to the places of that attribute.
 -- Assumes nothing.
-use Prim.Native.Nat.{ℕ, zero, suc, _+_, _*_, _-_, _/_, _%_, _^_, _≤_, _<_}
-use mathlib.Core.Path.{_≡_, refl, sym, _∙_, ap, ap₂, subst, subst⁻¹}
-use mathlib.Core.Logic.{_⊎_, inl, inr, ⊎-elim}
-use mathlib.Core.Bool.{Bool, true, false, not}
+use Prim.Native.Nat.{ℕ, _+_, _*_, _-_, _/_, _%_, _^_, _≤_, _<_}
+use mathlib.Core.Path.{_≡_, _∙_, ap, ap₂, subst, subst⁻¹}
+use mathlib.Core.Logic.{_⊎_, ⊎-elim}
+use mathlib.Core.Bool.{Bool}
 use mathlib.Core.List.{List}
 use native.Mathlib.Omega.{arith}
 use lib.Dec.{T, ltb, ltb→lt, lt→ltb}
 use lib.Pow.{shl-lt, pow-mono}
-use Rattle.bits.specs.Bit.{hasb, collect, union, field, raised}
+use Rattle.bits.specs.Bit.{hasb, union, field, raised}
 use Rattle.bits.proofs.SetLaws.{union-lt}
 use Rattle.bits.proofs.CollectLaws.{collect-lt}
 use Rattle.bits.proofs.ShiftLaws.{field-lt, has-field, has-raised, raised-low}
 use Rattle.bits.proofs.MemberLaws.{hasb-collect, hasb-below, hasb-ext, union-cases, union-left, union-right}
 use Rattle.basics.specs.Tests.{_and_}
 use Rattle.basics.specs.Lists.{word}
-use Rattle.basics.proofs.TestLaws.{and-intro, and-left, and-right, same-test, below-or-not, true-T}
+use Rattle.basics.proofs.TestLaws.{and-intro, and-left, and-right, same-test, below-or-not}
 use Rattle.closing.specs.Rows.{leads, arcsAt}
+
+-- eight places of a set put to others: what stands there afterwards, and back
+pub moved-forth : (m n k s : ℕ) → T (hasb k (raised n (field m s))) → (n ≤ k) × (k - n < 8) × T (hasb (m + (k - n)) s)
+moved-forth m n k s t =
+    ⊎-elim (λ l. absurd (subst (λ (b : Bool). T b) (raised-low n k (field m s) l) t))
+    (λ l.
+        let u : T (hasb (k - n) (field m s)) = subst (λ (b : Bool). T b) (has-raised n k (field m s) l) t in
+        let small : k - n < 8 = hasb-below 8 (k - n) (field m s) (field-lt m s) u in
+        (l, small, subst (λ (b : Bool). T b) (has-field m (k - n) s small) u))
+    (below-or-not k n)
+
+pub moved-back : (m n k s : ℕ) → n ≤ k → k - n < 8 → T (hasb (m + (k - n)) s) → T (hasb k (raised n (field m s)))
+moved-back m n k s l small t =
+    subst⁻¹ (λ (b : Bool). T b) (has-raised n k (field m s) l) (subst⁻¹ (λ (b : Bool). T b) (has-field m (k - n) s small) t)
 
 module _ (rows : List ℕ) (base i : ℕ) where
   -- what the arcs at a position are, arc by arc
@@ -47,18 +61,13 @@ module _ (rows : List ℕ) (base i : ℕ) where
       → (k / 8 ≡ a) × T (leads rows base (8 * i + k / 8) (8 * i + k % 8))
   unfolding leads
   part-forth a k h t =
-      ⊎-elim (λ l. absurd (subst (λ (b : Bool). T b) (raised-low (8 * a) k _ l) t))
-      (λ l.
-          let s : T (hasb (k - 8 * a) (field (8 * i) (word rows (base + 8 * i + a)))) = subst (λ (b : Bool). T b) (has-raised (8 * a) k _ l) t in
-          let small : k - 8 * a < 8 = hasb-below 8 (k - 8 * a) _ (field-lt (8 * i) _) s in
-          let e : k / 8 ≡ a = omega arith in
-          let place : base + 8 * i + a ≡ base + (8 * i + k / 8) = omega arith in
-          let bitIs : 8 * i + (k - 8 * a) ≡ 8 * i + k % 8 = omega arith in
-          (e,
-          subst (λ (p : ℕ). T (hasb (8 * i + k % 8) (word rows p))) place
-          (subst (λ (p : ℕ). T (hasb p (word rows (base + 8 * i + a)))) bitIs
-          (subst (λ (b : Bool). T b) (has-field (8 * i) (k - 8 * a) (word rows (base + 8 * i + a)) small) s))))
-      (below-or-not k (8 * a))
+      let s = moved-forth (8 * i) (8 * a) k (word rows (base + 8 * i + a)) t in
+      let e : k / 8 ≡ a = omega (arith, s .0, s .1) in
+      let place : base + 8 * i + a ≡ base + (8 * i + k / 8) = omega arith in
+      let bitIs : 8 * i + (k - 8 * a) ≡ 8 * i + k % 8 = omega (arith, s .0, s .1) in
+      (e,
+      subst (λ (p : ℕ). T (hasb (8 * i + k % 8) (word rows p))) place
+      (subst (λ (p : ℕ). T (hasb p (word rows (base + 8 * i + a)))) bitIs (s .2)))
 
   part-back : (a k : ℕ) → k / 8 ≡ a → T (leads rows base (8 * i + k / 8) (8 * i + k % 8))
       → T (hasb k (raised (8 * a) (field (8 * i) (word rows (base + 8 * i + a)))))
@@ -66,10 +75,9 @@ module _ (rows : List ℕ) (base i : ℕ) where
   part-back a k e t =
       let place : base + 8 * i + a ≡ base + (8 * i + k / 8) = omega arith in
       let bitIs : 8 * i + (k - 8 * a) ≡ 8 * i + k % 8 = omega arith in
-      subst⁻¹ (λ (b : Bool). T b) (has-raised (8 * a) k (field (8 * i) (word rows (base + 8 * i + a))) (omega arith))
-      (subst⁻¹ (λ (b : Bool). T b) (has-field (8 * i) (k - 8 * a) (word rows (base + 8 * i + a)) (omega arith))
+      moved-back (8 * i) (8 * a) k (word rows (base + 8 * i + a)) (omega arith) (omega arith)
       (subst⁻¹ (λ (p : ℕ). T (hasb p (word rows (base + 8 * i + a)))) bitIs
-      (subst⁻¹ (λ (p : ℕ). T (hasb (8 * i + k % 8) (word rows p))) place t)))
+      (subst⁻¹ (λ (p : ℕ). T (hasb (8 * i + k % 8) (word rows p))) place t))
 
   -- one attribute more
   gather-one : (a : ℕ) → a < 8

@@ -1,4 +1,4 @@
 pub mod RewriteLaws
-pub mod AddLaws
+pub mod ConnectLaws
 pub mod ClosedLaws
 pub mod GatherLaws

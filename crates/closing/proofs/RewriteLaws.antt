@@ -1,23 +1,33 @@
 -- Writing words anew at the members of a set, one after the other: those that are done are written, the others are as they were.
 -- Assumes nothing.
-use Prim.Native.Nat.{ℕ, _+_, _-_, _≤_, _<_}
+use Prim.Native.Nat.{ℕ, _+_, _-_, _<_}
 use mathlib.Core.Path.{_≡_, refl, sym, _∙_, ap, subst, subst⁻¹}
-use mathlib.Core.Logic.{_⊎_, ⊎-elim}
+use mathlib.Core.Logic.{_⊎_, inl, inr, ⊎-elim}
 use mathlib.Core.Bool.{Bool, cond, not}
 use mathlib.Core.List.{List}
 use native.Mathlib.Omega.{arith}
 use lib.Dec.{T, ltb, leb, leb→le, lt→ltb, le→leb, T-not, not-T}
 use lib.ListN.{length, set, length-set}
 use lib.Seq.{getD-set-same, getD-set-other, ext-getD}
-use Rattle.bits.specs.Bit.{hasb, remove, First}
+use Rattle.bits.specs.Bit.{hasb, remove, lowest, First}
 use Rattle.bits.proofs.BitLaws.{bit-has}
 use Rattle.bits.proofs.SetLaws.{remove-less}
+use Rattle.bits.proofs.RestLaws.{rest-of}
 use Rattle.bits.proofs.MemberLaws.{has-not, has-other, none-left}
 use Rattle.basics.specs.Tests.{_and_}
-use Rattle.basics.specs.Lists.{word, tabulate}
+use Rattle.basics.specs.Lists.{word}
 use Rattle.basics.proofs.TestLaws.{and-intro, and-left, and-right, chosen, passed-over, true-T, same-or-not, same-test}
 use Rattle.basics.proofs.ListLaws.{length-tabulate, getD-tabulate}
 use Rattle.closing.specs.Rows.{rewritten}
+
+-- where o is taken out of what is left, the others were left before, and what is not left is o or was not left before
+pub still : (o left j : ℕ) → T (hasb j (remove o left)) → T (hasb j left)
+still o left j t =
+    ⊎-elim (λ q. absurd (T-not (hasb o (remove o left)) (has-not o left) (subst (λ (x : ℕ). T (hasb x (remove o left))) q t)))
+    (λ q. subst (λ (x : Bool). T x) (has-other o j left q) t) (same-or-not j o)
+
+pub gone : (o left j : ℕ) → T (not (hasb j (remove o left))) → (j ≡ o) ⊎ T (not (hasb j left))
+gone o left j t = ⊎-elim (λ q. inl q) (λ q. inr (subst (λ (x : Bool). T (not x)) (has-other o j left q) t)) (same-or-not j o)
 
 -- word j stands at a member of the set, and is done
 unfoldable pub done : ℕ → ℕ → ℕ → ℕ → Bool
@@ -81,16 +91,12 @@ module _ (entry : List ℕ) (base among : ℕ) (f : ℕ → ℕ) where
         record {
             size = length-set rows (base + o) v ∙ w .size;
             room = w .room;
-            within = λ i t. w .within i (kept i t);
+            within = λ i t. w .within i (still o left i t);
             words = λ j. ⊎-elim (λ q. here j q) (λ q. there j q) (same-or-not j (base + o))
         }
       where
         back : o ≡ base + o - base
         back = omega arith
-        kept : (i : ℕ) → T (hasb i (remove o left)) → T (hasb i left)
-        kept i t =
-            ⊎-elim (λ q. absurd (T-not (hasb o (remove o left)) (has-not o left) (subst (λ (x : ℕ). T (hasb x (remove o left))) q t)))
-            (λ q. subst (λ (x : Bool). T x) (has-other o i left q) t) (same-or-not i o)
         here : (j : ℕ) → j ≡ base + o → word (set rows (base + o) v) j ≡ cond (done base among (remove o left) j) (f (j - base)) (word entry j)
         here j q =
             subst⁻¹ (λ (x : ℕ). word (set rows (base + o) v) x ≡ cond (done base among (remove o left) x) (f (x - base)) (word entry x)) q
@@ -119,6 +125,9 @@ module _ (entry : List ℕ) (base among : ℕ) (f : ℕ → ℕ) where
 -- The same as a loop meets them: o is the first that is left, and what is left after it is in a local.
 pub taken-less : (left o next : ℕ) → First left o → next ≡ remove o left → next < left
 taken-less left o next f e = subst⁻¹ (λ (x : ℕ). x < left) e (remove-less o left (f .member))
+
+pub rest-less : (left o next : ℕ) → First left o → next ≡ remove (lowest 64 left) left → next < left
+rest-less left o next f e = taken-less left o next f (rest-of left o next f e)
 
 pub turn : (entry : List ℕ) (base among : ℕ) (f : ℕ → ℕ) (rows : List ℕ) (left o next v : ℕ) → Rewriting entry base among f rows left
     → First left o → next ≡ remove o left → v ≡ f o → Rewriting entry base among f (set rows (base + o) v) next

@@ -1,12 +1,13 @@
 -- The relation of one rule in 64 lent rows, from a word called base on: bit b of row o says that a path leads from o to b.
--- The rows are kept closed: 000's addarctrans adds one arc and all that it joins. Assumes nothing.
+-- The rows are kept closed: 000's addarctrans adds an arc and all that it joins, and here all arcs from one set to another are added
+-- together. Assumes nothing.
 use Prim.Native.Nat.{ℕ, _+_, _*_, _-_, _/_, _%_}
 use mathlib.Core.Bool.{Bool, cond}
 use mathlib.Core.List.{List}
 use lib.Dec.{ltb, leb, eqb}
 use lib.ListN.{length}
-use Rattle.bits.specs.Bit.{hasb, insert, union, collect}
-use Rattle.basics.specs.Tests.{_and_, _or_}
+use Rattle.bits.specs.Bit.{hasb, union, collect}
+use Rattle.basics.specs.Tests.{_and_, _or_, some}
 use Rattle.basics.specs.Lists.{word, tabulate}
 
 -- a path leads from o to b
@@ -17,19 +18,27 @@ leads rows base o b = hasb b (word rows (base + o))
 unfoldable pub reaches : List ℕ → ℕ → ℕ → ℕ → Bool
 reaches rows base o a = eqb o a or leads rows base o a
 
--- row o with the arc from a to b added: what reaches a now leads to b and to all that b leads to
-unfoldable pub addedRow : List ℕ → ℕ → ℕ → ℕ → ℕ → ℕ
-addedRow rows base a b o =
-    cond (reaches rows base o a) (union (word rows (base + o)) (insert b (word rows (base + b)))) (word rows (base + o))
+-- o reaches a member of a set, where this is its row
+unfoldable pub reachesSome : ℕ → ℕ → ℕ → Bool
+reachesSome row o set = some 64 (λ a. hasb a set and (eqb o a or hasb a row))
+
+-- all that the members of a set reach
+unfoldable pub reachedFrom : List ℕ → ℕ → ℕ → ℕ
+reachedFrom rows base set = collect 64 (λ x. some 64 (λ b. hasb b set and reaches rows base b x))
+
+-- row o with the arcs from each member of one set to each of another added: what reaches the first leads to all that the second reaches
+unfoldable pub connectedRow : List ℕ → ℕ → ℕ → ℕ → ℕ → ℕ
+connectedRow rows base from to o =
+    cond (reachesSome (word rows (base + o)) o from) (union (word rows (base + o)) (reachedFrom rows base to)) (word rows (base + o))
 
 -- words from base on written anew at the members of a set: word base + o becomes f o
 unfoldable pub rewritten : List ℕ → ℕ → ℕ → (ℕ → ℕ) → List ℕ
 rewritten rows base among f =
     tabulate (length rows) (λ j. cond (leb base j and ltb j (base + 64) and hasb (j - base) among) (f (j - base)) (word rows j))
 
--- the rows with the arc added at the occurrences that are among some
-unfoldable pub added : List ℕ → ℕ → ℕ → ℕ → ℕ → List ℕ
-added rows base among a b = rewritten rows base among (λ o. addedRow rows base a b o)
+-- the rows with the arcs added at the occurrences that are among some
+unfoldable pub connected : List ℕ → ℕ → ℕ → ℕ → ℕ → List ℕ
+connected rows base among from to = rewritten rows base among (λ o. connectedRow rows base from to o)
 
 -- The arcs between the attributes at position i, of which there are count: bit 8a + b says that a path leads from attribute a to b.
 unfoldable pub arcsAt : List ℕ → ℕ → ℕ → ℕ → ℕ

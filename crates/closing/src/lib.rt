@@ -2,37 +2,47 @@
 ghost use mathlib.Core.Path.{_≡_};
 ghost use Prim.Native.Nat.{_+_, _≤_, _<_};
 ghost use mathlib.Core.Bool.{cond};
-ghost use lib.Dec.{eqb};
 ghost use lib.ListN.{length};
-ghost use Rattle.bits.specs.Bit.{hasb, union};
-ghost use Rattle.basics.specs.Tests.{_or_};
+ghost use Rattle.bits.specs.Bit.{union};
 ghost use Rattle.closing.specs.Rows as spec;
 
-// Row o with an arc from a added, where b and all that b leads to are `reached`.
-fn extended(row: u64, o: usize, a: usize, reached: u64) -> u64
-    requires { ⌜ a < 64 ⌝ }
-    ensures { λ r. ⌜ r ≡ cond (eqb o a or hasb a row) (union row reached) row ⌝ }
+// The members of a set and all that they lead to.
+fn reached_from(rows: &[u64], base: usize, set: u64) -> u64
+    requires { ⌜ base + 64 ≤ length (now rows) ⌝ }
+    ensures { λ r. ⌜ r ≡ spec.reachedFrom (now (rows .entry)) base set ⌝ }
 {
-    if o == a {
-        return bits::union(row, reached);
+    let mut reached = set;
+    let mut left = set;
+    while left != 0 {
+        let b = bits::first(left);
+        left = bits::rest(left);
+        reached = bits::union(reached, rows[base + b]);
     }
-    if bits::has(row, a) {
-        return bits::union(row, reached);
-    }
-    row
+    reached
 }
 
-// Adds the arc from a to b and all that it joins. Only the rows of the occurrences are looked at.
-pub fn add_arc(rows: &mut [u64], base: usize, among: u64, a: usize, b: usize)
-    requires { ⌜ (base + 64 ≤ length (now rows)) × (a < 64) × (b < 64) ⌝ }
-    ensures { λ _. ⌜ now (rows .exit) ≡ spec.added (now (rows .entry)) base among a b ⌝ }
+// Row o with all that is `reached` from its new arcs, if o is a member of `from` or leads to one.
+fn extended(row: u64, o: usize, from: u64, reached: u64) -> u64
+    requires { ⌜ o < 64 ⌝ }
+    ensures { λ r. ⌜ r ≡ cond (spec.reachesSome row o from) (union row reached) row ⌝ }
 {
-    let reached = bits::with(rows[base + b], b);
+    if bits::common(bits::with(row, o), from) == 0 {
+        return row;
+    }
+    bits::union(row, reached)
+}
+
+// Adds the arcs from each member of `from` to each member of `to`, and all that they join. Only the rows of the occurrences are looked at.
+pub fn connect(rows: &mut [u64], base: usize, among: u64, from: u64, to: u64)
+    requires { ⌜ base + 64 ≤ length (now rows) ⌝ }
+    ensures { λ _. ⌜ now (rows .exit) ≡ spec.connected (now (rows .entry)) base among from to ⌝ }
+{
+    let reached = reached_from(rows, base, to);
     let mut left = among;
     while left != 0 {
         let o = bits::first(left);
-        left = bits::without(left, o);
-        rows[base + o] = extended(rows[base + o], o, a, reached);
+        left = bits::rest(left);
+        rows[base + o] = extended(rows[base + o], o, from, reached);
     }
 }
 

@@ -1,34 +1,34 @@
--- Adding arcs one after the other: no arc at first, one more, and what was added in two parts is added.
+-- Adding arcs: none, those from one set to another, and what was added in two parts is added.
 -- Assumes nothing.
-use Prim.Native.Nat.{ℕ, zero, suc, _+_, _*_, _/_, _%_, _^_, _≤_, _<_}
+use Prim.Native.Nat.{ℕ, _+_, _*_, _-_, _/_, _^_, _≤_, _<_}
 use mathlib.Core.Path.{_≡_, refl, sym, _∙_, ap, subst, subst⁻¹}
 use mathlib.Core.Logic.{_⊎_, inl, inr, ⊎-elim}
-use mathlib.Core.Bool.{Bool, true, false, cond, not}
 use mathlib.Core.List.{List}
 use native.Mathlib.Omega.{arith}
-use lib.Dec.{T, T-not}
-use lib.ListN.{length, List·getD-eq-default}
-use Rattle.bits.specs.Bit.{hasb, remove, First}
-use Rattle.bits.proofs.BitLaws.{bit-has}
-use Rattle.bits.proofs.MemberLaws.{has-not, has-other, none-left, hasb-below}
+use lib.Dec.{T, T-not, eqb→eq}
+use lib.ListN.{length, getD, List·getD-eq-default}
+use Rattle.bits.specs.Bit.{bit, hasb, single, field, raised, minus}
+use Rattle.bits.proofs.BitLaws.{bit-has, bit-single-same, bit-single-other}
+use Rattle.bits.proofs.MemberLaws.{none-left, hasb-below, minus-both, both-minus}
 use Rattle.basics.specs.Lists.{word}
-use Rattle.basics.proofs.TestLaws.{tested, chosen, passed-over, true-T, false-T, same-or-not, below-or-not}
+use Rattle.basics.proofs.TestLaws.{tested, true-T, same-or-not, below-or-not, below-suc}
 use Rattle.relations.specs.Paper.{Path⁺}
 use Rattle.relations.proofs.PathLaws.{path-join, path-into, path-map}
-use Rattle.closing.specs.Rows.{leads, added}
-use Rattle.closing.proofs.ClosedLaws.{Kept, Below, added-length, added-outside, added-keeps, added-arc, added-kept, added-below}
-use Rattle.inducing.specs.Closes.{joined, Step, Closes, ArcAt, Ends}
+use Rattle.closing.specs.Rows.{leads, connected}
+use Rattle.closing.proofs.ClosedLaws.{
+    Kept, Within, connected-length, connected-outside, connected-keeps, connected-arc, connected-kept, connected-below
+}
+use Rattle.closing.proofs.ConnectLaws.{some-member}
+use Rattle.closing.proofs.GatherLaws.{moved-forth, moved-back}
+use Rattle.inducing.specs.Closes.{Between, Inside, Step, Closes, ArcAt, Ends}
 
--- the test that stands before an addition
-pub joined-there : (rows : List ℕ) (base among a b : ℕ) (t : Bool) → t ≡ hasb b (word rows (base + a)) → t ≡ true → rows ≡ joined rows base among a b
-unfolding joined leads
-joined-there rows base among a b t e f = sym (chosen (hasb b (word rows (base + a))) rows (added rows base among a b) (true-T _ (sym e ∙ f)))
+-- the one member of the set of i alone
+pub single-has : (i : ℕ) → T (hasb i (single i))
+single-has i = true-T _ (bit-has i (single i) (bit-single-same i))
 
-pub joined-new : (rows after : List ℕ) (base among a b : ℕ) (t : Bool) → t ≡ hasb b (word rows (base + a)) → t ≡ false
-    → after ≡ added rows base among a b → after ≡ joined rows base among a b
-unfolding joined leads
-joined-new rows after base among a b t e f h =
-    h ∙ sym (passed-over (hasb b (word rows (base + a))) rows (added rows base among a b) (false-T _ (sym e ∙ f)))
+pub single-only : (a i : ℕ) → T (hasb a (single i)) → a ≡ i
+single-only a i t =
+    ⊎-elim (λ e. e) (λ n. absurd (omega (arith, bit-single-other a i n, eqb→eq (bit a (single i)) 1 t))) (same-or-not a i)
 
 module _ (before : List ℕ) (base among : ℕ) where
   -- with no arcs the rows are as they were
@@ -43,54 +43,41 @@ module _ (before : List ℕ) (base among : ℕ) where
           sound = λ o x h t. Path⁺.one (inl (h, t))
       }
 
-  -- one addition
-  module _ (k : Kept before base among) (a b : ℕ) (fa : a < 64) (fb : b < 64) (ia : T (hasb a among)) (ib : T (hasb b among)) where
-    added-closes : (arc : ℕ → ℕ → Type 0) → arc a b → ((c d : ℕ) → arc c d → (c ≡ a) × (d ≡ b)) → Closes before base among arc (added before base among a b)
-    added-closes arc here only =
+  -- the arcs from one set to another
+  module _ (from to : ℕ) (k : Kept before base among) (small : among < 2 ^ 64) where
+    connected-closes : Within from among → Within to among
+        → Closes before base among (Between from to) (connected before base among from to)
+    connected-closes wf wt =
         record {
-            size = added-length before base among a b k fa fb ia ib;
+            size = connected-length before base among from to k small wf wt;
             outside = λ j out.
-                ⊎-elim (λ l. added-outside before base among a b k fa fb ia ib j out l)
+                ⊎-elim (λ l. connected-outside before base among from to k small wf wt j out l)
                 (λ l.
-                    List·getD-eq-default (added before base among a b) 0 {n = j} (omega (arith, added-length before base among a b k fa fb ia ib))
+                    List·getD-eq-default (connected before base among from to) 0 {n = j}
+                    (omega (arith, connected-length before base among from to k small wf wt))
                     ∙ sym (List·getD-eq-default before 0 {n = j} (omega arith))) (below-or-not j (length before));
-            kept = added-kept before base among a b k fa fb ia ib;
-            keeps = added-keeps before base among a b k fa fb ia ib;
-            has = λ c d e.
-                subst⁻¹ (λ (n : ℕ). T (leads (added before base among a b) base n d)) (only c d e .0)
-                (subst⁻¹ (λ (n : ℕ). T (leads (added before base among a b) base a n)) (only c d e .1)
-                (added-arc before base among a b k fa fb ia ib));
+            kept = connected-kept before base among from to k small wf wt;
+            keeps = connected-keeps before base among from to k small wf wt;
+            has = λ a b e. connected-arc before base among from to k small wf wt a b (e .0) (e .1);
             sound =
-                added-below before base among a b k fa fb ia ib (λ c d. Path⁺ (Step before base arc) c d) (λ o m x p q. path-join p q)
-                (Path⁺.one (inr here)) (λ o x h t. Path⁺.one (inl (h, t)))
+                connected-below before base among from to k small wf wt (λ c d. Path⁺ (Step before base (Between from to)) c d)
+                (λ o m x p q. path-join p q) (λ a b ia ib. Path⁺.one (inr (ia, ib))) (λ o x h t. Path⁺.one (inl (h, t)))
         }
 
-    stays-closes : (arc : ℕ → ℕ → Type 0) → T (leads before base a b) → ((c d : ℕ) → arc c d → (c ≡ a) × (d ≡ b)) → Closes before base among arc before
-    stays-closes arc there only =
-        record {
-            size = refl;
-            outside = λ j h. refl;
-            kept = k;
-            keeps = λ o x h t. t;
-            has = λ c d e.
-                subst⁻¹ (λ (n : ℕ). T (leads before base n d)) (only c d e .0) (subst⁻¹ (λ (n : ℕ). T (leads before base a n)) (only c d e .1) there);
-            sound = λ o x h t. Path⁺.one (inl (h, t))
-        }
+    -- where one of the sets is empty there are no arcs, and else every member is the end of one
+    pub join-no-source : from ≡ 0 → Closes before base among (Between from to) before
+    join-no-source e = closes-none (Between from to) k (λ a b s. T-not (hasb a 0) (none-left a) (subst (λ (n : ℕ). T (hasb a n)) e (s .0)))
 
-    -- the arc from a to b alone
-    abbrev pub Only : ℕ → ℕ → Type 0
-    Only c d = (c ≡ a) × (d ≡ b)
+    pub join-no-target : to ≡ 0 → Closes before base among (Between from to) before
+    join-no-target e = closes-none (Between from to) k (λ a b s. T-not (hasb b 0) (none-left b) (subst (λ (n : ℕ). T (hasb b n)) e (s .1)))
 
-    pub joined-closes : Closes before base among Only (joined before base among a b)
-    unfolding joined
-    joined-closes =
-        ⊎-elim
-        (λ t.
-            subst⁻¹ (λ (s : List ℕ). Closes before base among Only s) (chosen (leads before base a b) before (added before base among a b) t)
-            (stays-closes Only t (λ c d e. e)))
-        (λ t.
-            subst⁻¹ (λ (s : List ℕ). Closes before base among Only s) (passed-over (leads before base a b) before (added before base among a b) t)
-            (added-closes Only (refl, refl) (λ c d e. e))) (tested (leads before base a b))
+    pub join-arcs : Inside among (Between from to) → (from ≡ 0 → ⊥) → (to ≡ 0 → ⊥) → from < 2 ^ 64 → to < 2 ^ 64 → (after : List ℕ)
+        → after ≡ connected before base among from to → Closes before base among (Between from to) after
+    join-arcs inside nf nt hf ht after e =
+        let a = some-member from hf nf in
+        let b = some-member to ht nt in
+        subst⁻¹ (λ (s : List ℕ). Closes before base among (Between from to) s) e
+        (connected-closes (λ o t. inside o (b .0) (t, b .2) .0) (λ o t. inside (a .0) o (a .2, t) .1))
 
 module _ (before : List ℕ) (base among : ℕ) where
   -- two additions, one after the other
@@ -110,16 +97,6 @@ module _ (before : List ℕ) (base among : ℕ) where
                   (λ f. Path⁺.one (inr (right c d f))) s) (w .sound o x h t)
       }
 
-  -- one arc more
-  pub closes-more : (mid : List ℕ) (arc more : ℕ → ℕ → Type 0) (a b : ℕ) → Closes before base among arc mid → a < 64 → b < 64 → T (hasb a among)
-      → T (hasb b among) → ((c d : ℕ) → more c d → arc c d ⊎ ((c ≡ a) × (d ≡ b))) → ((c d : ℕ) → arc c d → more c d) → more a b
-      → ((c d : ℕ) → arc c d → c < 64) → Closes before base among more (joined mid base among a b)
-  closes-more mid arc more a b v fa fb ia ib split old new small =
-      closes-then mid (joined mid base among a b) arc (λ c d. (c ≡ a) × (d ≡ b)) more v
-      (joined-closes mid base among (v .kept) a b fa fb ia ib)
-      (λ c d e. ⊎-elim (λ f. inl (small c d f, v .has c d f)) (λ f. inr f) (split c d e)) old
-      (λ c d e. subst⁻¹ (λ (n : ℕ). more n d) (e .0) (subst⁻¹ (λ (n : ℕ). more a n) (e .1) new))
-
   -- the same arcs by other words
   pub closes-same : (arc other : ℕ → ℕ → Type 0) (after : List ℕ) → Closes before base among arc after → ((c d : ℕ) → arc c d → other c d)
       → ((c d : ℕ) → other c d → arc c d) → Closes before base among other after
@@ -133,82 +110,77 @@ module _ (before : List ℕ) (base among : ℕ) where
           sound = λ o x h t. path-map (λ m n q. ⊎-elim (λ y. inl y) (λ y. inr (forth m n y)) q) (v .sound o x h t)
       }
 
--- The arcs of a set at one position, added while some are left.
-pub record Spread (i arcs left c d : ℕ) : Type 0 where
+-- The arcs of a set at position i that lead from one of the first n attributes.
+pub record ArcFrom (i arcs n c d : ℕ) : Type 0 where
   pub arc : ArcAt i arcs c d
-  pub done : T (not (hasb (arc .number) left))
+  pub done : arc .number / 8 < n
 
-pub record Inducing (entry : List ℕ) (base among i arcs : ℕ) (rows : List ℕ) (left : ℕ) : Type 0 where
-  pub room : base + 64 ≤ length rows
-  pub place : i < 8
-  pub ends : Ends among i arcs
-  pub within : (k : ℕ) → T (hasb k left) → T (hasb k arcs)
-  pub fits : arcs < 2 ^ 64
-  pub closes : Closes entry base among (Spread i arcs left) rows
+-- the missing arcs from attribute a, as the loop has them
+module _ (rows : List ℕ) (base i arcs a part all from to : ℕ) (p : part ≡ field (8 * a) arcs) (q : all ≡ raised (8 * i) part)
+    (f : from ≡ single (8 * i + a)) (m : to ≡ minus all (getD rows (base + (8 * i + a)) 0)) where
+  all-is : all ≡ raised (8 * i) (field (8 * a) arcs)
+  all-is = q ∙ ap (raised (8 * i)) p
 
-module _ (entry : List ℕ) (base among i arcs : ℕ) where
-  pub inducing-start : base + 64 ≤ length entry → i < 8 → arcs < 2 ^ 64 → Kept entry base among → Ends among i arcs → Inducing entry base among i arcs entry arcs
-  inducing-start room place fits k e =
+  missing-arc : (c d : ℕ) → Between from to c d → ArcFrom i arcs (a + 1) c d
+  missing-arc c d s =
+      let e : c ≡ 8 * i + a = single-only c (8 * i + a) (subst (λ (n : ℕ). T (hasb c n)) f (s .0)) in
+      let t = minus-both d all (word rows (base + (8 * i + a))) (subst (λ (n : ℕ). T (hasb d n)) m (s .1)) in
+      let u = moved-forth (8 * a) (8 * i) d arcs (subst (λ (n : ℕ). T (hasb d n)) all-is (t .0)) in
       record {
-          room = room;
-          place = place;
-          ends = e;
-          within = λ k t. t;
-          fits = fits;
-          closes = closes-none entry base among (Spread i arcs arcs) k (λ a b s. T-not (hasb (s .arc .number) arcs) (s .done) (s .arc .member))
+          arc = record {
+              number = 8 * a + (d - 8 * i);
+              member = u .2;
+              start = omega (arith, e, u .1);
+              end = omega (arith, u .0, u .1)
+          };
+          done = omega (arith, u .1)
       }
 
-  spread-small : i < 8 → arcs < 2 ^ 64 → (left c d : ℕ) → Spread i arcs left c d → c < 64
-  spread-small h fits left c d s = omega (arith, s .arc .start, hasb-below 64 (s .arc .number) arcs fits (s .arc .member))
+  pub missing-inside : (among : ℕ) → Ends among i arcs → Inside among (Between from to)
+  missing-inside among ends c d s =
+      let w = missing-arc c d s in
+      let t = ends (w .arc .number) (w .arc .member) in
+      (subst⁻¹ (λ (o : ℕ). T (hasb o among)) (w .arc .start) (t .0), subst⁻¹ (λ (o : ℕ). T (hasb o among)) (w .arc .end) (t .1))
 
-  module _ (rows : List ℕ) (left k next : ℕ) (w : Inducing entry base among i arcs rows left) (f : First left k) (e : next ≡ remove k left) where
-    stands : T (hasb k left)
-    stands = true-T _ (bit-has k left (f .member))
+  pub induce-turn : (entry : List ℕ) (among : ℕ) → Closes entry base among (ArcFrom i arcs a) rows → i < 8 → a < 8 → (after : List ℕ)
+      → Closes rows base among (Between from to) after → Closes entry base among (ArcFrom i arcs (a + 1)) after
+  unfolding leads
+  induce-turn entry among v hi ha after w =
+      closes-then entry base among rows after (ArcFrom i arcs a) (Between from to) (ArcFrom i arcs (a + 1)) v w split
+      (λ c d s. record { arc = s .arc; done = omega (arith, s .done) }) missing-arc
+    where
+      here : (c d : ℕ) (s : ArcAt i arcs c d) → s .number / 8 ≡ a → ((c < 64) × T (leads rows base c d)) ⊎ Between from to c d
+      here c d s e =
+          let start : c ≡ 8 * i + a = omega (arith, s .start) in
+          let same : s .number ≡ 8 * a + (d - 8 * i) = omega (arith, s .end) in
+          ⊎-elim (λ t. inl (omega arith, subst⁻¹ (λ (o : ℕ). T (hasb d (word rows (base + o)))) start t))
+          (λ t.
+              inr (subst⁻¹ (λ (n : ℕ). T (hasb c n)) f
+              (subst⁻¹ (λ (n : ℕ). T (hasb n (single (8 * i + a)))) start (single-has (8 * i + a))),
+              subst⁻¹ (λ (n : ℕ). T (hasb d n)) m
+              (both-minus d all (word rows (base + (8 * i + a)))
+              (subst⁻¹ (λ (n : ℕ). T (hasb d n)) all-is
+              (moved-back (8 * a) (8 * i) d arcs (omega (arith, s .end)) (omega (arith, s .end))
+              (subst (λ (n : ℕ). T (hasb n arcs)) same (s .member)))) t)))
+          (tested (hasb d (word rows (base + (8 * i + a)))))
+      split : (c d : ℕ) → ArcFrom i arcs (a + 1) c d → ((c < 64) × T (leads rows base c d)) ⊎ Between from to c d
+      split c d s =
+          ⊎-elim
+          (λ l. inl (omega (arith, s .arc .start), v .has c d (record { arc = s .arc; done = l })))
+          (λ l. here c d (s .arc) l) (below-suc (s .arc .number / 8) a (omega (arith, s .done)))
 
-    after-other : (j : ℕ) → T (not (hasb j next)) → (j ≡ k → ⊥) → T (not (hasb j left))
-    after-other j t n = subst (λ (b : Bool). T (not b)) (ap (λ (s : ℕ). hasb j s) e ∙ has-other k j left n) t
+module _ (entry : List ℕ) (base among i arcs : ℕ) where
+  pub induce-start : Kept entry base among → Closes entry base among (ArcFrom i arcs 0) entry
+  induce-start k = closes-none entry base among (ArcFrom i arcs 0) k (λ c d s. let h = s .done in omega arith)
 
-    still : (j : ℕ) → T (hasb j next) → T (hasb j left)
-    still j t =
-        ⊎-elim (λ q. absurd (T-not (hasb k next) (subst⁻¹ (λ (s : ℕ). T (not (hasb k s))) e (has-not k left)) (subst (λ (n : ℕ). T (hasb n next)) q t)))
-        (λ n. subst (λ (b : Bool). T b) (ap (λ (s : ℕ). hasb j s) e ∙ has-other k j left n) t) (same-or-not j k)
+  -- where no attribute from a on has arcs, all are there
+  pub induce-early : (rows : List ℕ) (a limit : ℕ) → Closes entry base among (ArcFrom i arcs a) rows → limit ≡ single (8 * a) → arcs < limit
+      → Closes entry base among (ArcAt i arcs) rows
+  induce-early rows a limit v e h =
+      closes-same entry base among (ArcFrom i arcs a) (ArcAt i arcs) rows v (λ c d s. s .arc)
+      (λ c d s. record { arc = s; done = omega (arith, hasb-below (8 * a) (s .number) arcs (omega (arith, e)) (s .member)) })
 
-    gone : (j : ℕ) → T (not (hasb j left)) → T (not (hasb j next))
-    gone j t =
-        ⊎-elim (λ s. absurd (T-not (hasb j left) t (still j s))) (λ s. s) (tested (hasb j next))
-
-    pub inducing-turn : (after : List ℕ) → after ≡ joined rows base among (8 * i + k / 8) (8 * i + k % 8) → Inducing entry base among i arcs after next
-    inducing-turn after h =
-        subst⁻¹ (λ (s : List ℕ). Inducing entry base among i arcs s next) h
-        (let ends = w .ends k (w .within k stands) in
-        let small : k < 64 = f .small in
-        let fa : 8 * i + k / 8 < 64 = omega (arith, w .place) in
-        let fb : 8 * i + k % 8 < 64 = omega (arith, w .place) in
-        let v : Closes entry base among (Spread i arcs next) (joined rows base among (8 * i + k / 8) (8 * i + k % 8)) =
-                closes-more entry base among rows (Spread i arcs left) (Spread i arcs next) (8 * i + k / 8) (8 * i + k % 8) (w .closes) fa fb
-                (ends .0) (ends .1) split
-                (λ c d s. record { arc = s .arc; done = gone (s .arc .number) (s .done) })
-                (record {
-                    arc = record { number = k; member = w .within k stands; start = refl; end = refl };
-                    done = subst⁻¹ (λ (s : ℕ). T (not (hasb k s))) e (has-not k left)
-                }) (spread-small (w .place) (w .fits) left) in
-        record {
-            room = v .kept .room;
-            place = w .place;
-            ends = w .ends;
-            within = λ j t. w .within j (still j t);
-            fits = w .fits;
-            closes = v
-        })
-      where
-        split : (c d : ℕ) → Spread i arcs next c d → Spread i arcs left c d ⊎ ((c ≡ 8 * i + k / 8) × (d ≡ 8 * i + k % 8))
-        split c d s =
-            ⊎-elim
-            (λ q.
-                inr (s .arc .start ∙ ap (λ (n : ℕ). 8 * i + n / 8) q, s .arc .end ∙ ap (λ (n : ℕ). 8 * i + n % 8) q))
-            (λ n. inl (record { arc = s .arc; done = after-other (s .arc .number) (s .done) n })) (same-or-not (s .arc .number) k)
-
-  pub inducing-finish : (rows : List ℕ) (left : ℕ) → Inducing entry base among i arcs rows left → left ≡ 0 → Closes entry base among (ArcAt i arcs) rows
-  inducing-finish rows left w e =
-      closes-same entry base among (Spread i arcs left) (ArcAt i arcs) rows (w .closes) (λ c d s. s .arc)
-      (λ c d s. record { arc = s; done = subst⁻¹ (λ (n : ℕ). T (not (hasb (s .number) n))) e (none-left (s .number)) })
+  pub induce-finish : (rows : List ℕ) (a : ℕ) → Closes entry base among (ArcFrom i arcs a) rows → arcs < 2 ^ 64 → a ≤ 8 → 8 ≤ a
+      → Closes entry base among (ArcAt i arcs) rows
+  induce-finish rows a v fits h l =
+      let e : 64 ≡ 8 * a = omega arith in induce-early rows a (2 ^ 64) v (ap (λ (n : ℕ). 2 ^ n) e) fits

@@ -1,24 +1,24 @@
--- The arcs of functions are added argument by argument, function by function.
+-- The arcs of functions are added function by function, those from all arguments of one together.
 -- Assumes nothing.
-use Prim.Native.Nat.{ℕ, zero, suc, _+_, _*_, _^_, _≤_, _<_}
+use Prim.Native.Nat.{ℕ, _+_, _^_, _≤_, _<_}
 use mathlib.Core.Path.{_≡_, refl, sym, _∙_, ap, subst, subst⁻¹}
 use mathlib.Core.Logic.{_⊎_, inl, inr, ⊎-elim}
-use mathlib.Core.Bool.{Bool, true, false, cond}
+use mathlib.Core.Bool.{Bool, cond}
 use mathlib.Core.List.{List}
 use native.Mathlib.Omega.{arith}
 use native.Mathlib.Numerals.{add-one}
-use lib.Dec.{T, eqb}
-use lib.ListN.{length, getD}
+use lib.Dec.{T, T-not}
+use lib.ListN.{getD}
 use borrow.Author.Tests.{eq-eqb, ne-eqb}
-use Rattle.bits.specs.Bit.{hasb}
-use Rattle.bits.proofs.MemberLaws.{hasb-below}
+use Rattle.bits.specs.Bit.{hasb, single, insert}
+use Rattle.bits.proofs.MemberLaws.{hasb-below, none-left, insert-cases, insert-new, insert-old}
 use Rattle.basics.specs.Lists.{word}
 use Rattle.basics.proofs.TestLaws.{below-suc}
-use Rattle.grammar.specs.Table.{argumentWords, isConstant, functionAt, functionsAt}
+use Rattle.grammar.specs.Table.{argumentWords, functionAt, functionsAt}
 use Rattle.closing.proofs.ClosedLaws.{Kept}
-use Rattle.inducing.specs.Closes.{joined, Closes}
+use Rattle.inducing.specs.Closes.{Between, Inside, Closes}
 use Rattle.inducing.specs.Arcs.{argumentsAt, FunctionArc, RuleArc, FunctionFits, FunctionsFit}
-use Rattle.inducing.proofs.ClosesLaws.{closes-none, closes-more, closes-then, closes-same}
+use Rattle.inducing.proofs.ClosesLaws.{single-has, single-only, closes-none, closes-then, closes-same}
 
 -- how many arguments a function has, for a constant and for any other operation
 pub no-arguments : (g : List ℕ) (f op : ℕ) → op ≡ getD g (f + 1) 0 → op ≡ 0 → 0 ≡ argumentsAt g f
@@ -42,30 +42,67 @@ module _ (g : List ℕ) (among f : ℕ) where
   argument-small h w j n a l m e =
       omega (arith, hasb-below 64 (word g (f + 2 + j)) among h (w .argumentFits j (omega arith)))
 
-module _ (entry : List ℕ) (base among : ℕ) (g : List ℕ) (f : ℕ) where
-  pub function-start : Kept entry base among → Closes entry base among (FunctionArc g f 0) entry
-  function-start k = closes-none entry base among (FunctionArc g f 0) k (λ a b s. let h = s .placeFits in omega arith)
+-- a set of the first n arguments of the function at word f: the sources of its arcs
+pub record Sources (g : List ℕ) (f n from : ℕ) : Type 0 where
+  pub has : (a b : ℕ) → FunctionArc g f n a b → T (hasb a from)
+  pub sound : (a : ℕ) → T (hasb a from) → FunctionArc g f n a (word g f)
 
-  pub function-turn : (rows : List ℕ) (j n a b : ℕ) (after : List ℕ) → Closes entry base among (FunctionArc g f j) rows → among < 2 ^ 64
-      → FunctionFits g among f → j < n → n ≡ argumentsAt g f → a ≡ getD g (f + 2 + j) 0 → b ≡ getD g f 0 → after ≡ joined rows base among a b
-      → Closes entry base among (FunctionArc g f (j + 1)) after
-  function-turn rows j n a b after v h w l m ea eb e =
-      subst⁻¹ (λ (s : List ℕ). Closes entry base among (FunctionArc g f (j + 1)) s) e
-      (closes-more entry base among rows (FunctionArc g f j) (FunctionArc g f (j + 1)) a b v
-      (argument-small g among f h w j n a l m ea) (target-small g among f h w b eb)
-      (subst⁻¹ (λ (o : ℕ). T (hasb o among)) ea (w .argumentFits j (omega arith))) (subst⁻¹ (λ (o : ℕ). T (hasb o among)) eb (w .targetFits))
-      (λ c d s.
-          ⊎-elim (λ q. inl (record { place = s .place; placeFits = q; argument = s .argument; target = s .target }))
-          (λ q. inr (s .argument ∙ (ap (λ (i : ℕ). word g (f + 2 + i)) q ∙ sym ea), s .target ∙ sym eb))
-          (below-suc (s .place) j (omega (arith, s .placeFits))))
-      (λ c d s. record { place = s .place; placeFits = omega (arith, s .placeFits); argument = s .argument; target = s .target })
-      (record { place = j; placeFits = omega arith; argument = ea; target = eb })
-      (λ c d s. argument-small g among f h w (s .place) n c (omega (arith, s .placeFits)) m (s .argument)))
+module _ (g : List ℕ) (f : ℕ) where
+  pub sources-start : Sources g f 0 0
+  sources-start =
+      record {
+          has = λ a b s. absurd (let h = s .placeFits in omega arith);
+          sound = λ a t. absurd (T-not (hasb a 0) (none-left a) t)
+      }
 
-  pub function-finish : (rows : List ℕ) (j n : ℕ) → Closes entry base among (FunctionArc g f j) rows → j ≤ n → n ≤ j → n ≡ argumentsAt g f
-      → Closes entry base among (FunctionArc g f (argumentsAt g f)) rows
-  function-finish rows j n v h l m =
-      let e : j ≡ argumentsAt g f = omega arith in subst (λ (i : ℕ). Closes entry base among (FunctionArc g f i) rows) e v
+  pub sources-turn : (j from a next : ℕ) → Sources g f j from → a ≡ getD g (f + 2 + j) 0 → next ≡ insert a from → Sources g f (j + 1) next
+  sources-turn j from a next w e h =
+      record {
+          has = λ c d s.
+              subst⁻¹ (λ (n : ℕ). T (hasb c n)) h
+              (⊎-elim
+              (λ l.
+                  insert-old c a from
+                  (w .has c d (record { place = s .place; placeFits = l; argument = s .argument; target = s .target })))
+              (λ l.
+                  subst⁻¹ (λ (n : ℕ). T (hasb n (insert a from))) (s .argument ∙ (ap (λ (i : ℕ). word g (f + 2 + i)) l ∙ sym e))
+                  (insert-new a from))
+              (below-suc (s .place) j (omega (arith, s .placeFits))));
+          sound = λ c t.
+              ⊎-elim (λ q. record { place = j; placeFits = omega arith; argument = q ∙ e; target = refl })
+              (λ l.
+                  let s = w .sound c l in
+                  record { place = s .place; placeFits = omega (arith, s .placeFits); argument = s .argument; target = refl })
+              (insert-cases c a from (subst (λ (n : ℕ). T (hasb c n)) h t))
+      }
+
+  -- the arcs from them to the target are those of the function
+  module _ (n j from target to : ℕ) (w : Sources g f j from) (h : j ≤ n) (l : n ≤ j) (m : n ≡ argumentsAt g f) (e : target ≡ getD g f 0)
+      (q : to ≡ single target) where
+    arc-forth : (a b : ℕ) → Between from to a b → FunctionArc g f (argumentsAt g f) a b
+    arc-forth a b s =
+        let v = w .sound a (s .0) in
+        record {
+            place = v .place;
+            placeFits = omega (arith, v .placeFits);
+            argument = v .argument;
+            target = single-only b target (subst (λ (t : ℕ). T (hasb b t)) q (s .1)) ∙ e
+        }
+
+    pub function-inside : (among : ℕ) → FunctionFits g among f → Inside among (Between from to)
+    function-inside among v a b s =
+        let u = arc-forth a b s in
+        (subst⁻¹ (λ (o : ℕ). T (hasb o among)) (u .argument) (v .argumentFits (u .place) (u .placeFits)),
+        subst⁻¹ (λ (o : ℕ). T (hasb o among)) (u .target) (v .targetFits))
+
+    pub function-closes : (entry : List ℕ) (base among : ℕ) (after : List ℕ) → Closes entry base among (Between from to) after
+        → Closes entry base among (FunctionArc g f (argumentsAt g f)) after
+    function-closes entry base among after v =
+        closes-same entry base among (Between from to) (FunctionArc g f (argumentsAt g f)) after v arc-forth
+        (λ a b s.
+            (w .has a b (record { place = s .place; placeFits = omega (arith, s .placeFits); argument = s .argument; target = s .target }),
+            subst⁻¹ (λ (t : ℕ). T (hasb b t)) q
+            (subst⁻¹ (λ (o : ℕ). T (hasb o (single target))) (s .target ∙ sym e) (single-has target))))
 
 -- where the next function starts
 pub next-place : (g : List ℕ) (p k f next : ℕ) → f ≡ functionAt g p k → next ≡ f + 2 + argumentWords (getD g (f + 1) 0) → next ≡ functionAt g p (k + 1)

@@ -1,28 +1,16 @@
--- Two facts of sets: the members of one that another lacks, and that a set of small numbers is a small number.
+-- A set of small numbers is a small number.
 -- Assumes nothing.
-use Prim.Native.Nat.{ℕ, zero, suc, _+_, _-_, _%_, _^_, _≤_, _<_}
+use Prim.Native.Nat.{ℕ, zero, suc, _+_, _%_, _^_, _≤_, _<_}
 use mathlib.Core.Path.{_≡_, sym, _∙_, subst⁻¹}
 use mathlib.Core.Logic.{⊎-elim}
-use mathlib.Core.Bool.{Bool, not}
 use native.Mathlib.Omega.{arith}
 use native.Mathlib.Nat.{mod-lt}
-use lib.Dec.{T, T-not}
+use lib.Dec.{T}
 use lib.Pow.{pow-pos, pow-mono}
-use Rattle.bits.specs.Bit.{bit, hasb, minus}
-use Rattle.bits.proofs.BitLaws.{bit-cases, bit-has, bit-ext, has-bit}
-use Rattle.bits.proofs.SetLaws.{bit-minus}
+use Rattle.bits.specs.Bit.{bit, hasb}
+use Rattle.bits.proofs.BitLaws.{bit-cases, bit-has, bit-ext}
 use Rattle.bits.proofs.ShiftLaws.{bit-cut, bit-cut-above}
-use Rattle.basics.proofs.TestLaws.{true-T, T-true, below-or-not}
-
--- the members of a that b lacks
-pub minus-from : (k a b : ℕ) → T (hasb k (minus a b)) → T (hasb k a)
-minus-from k a b t =
-    ⊎-elim (λ e. absurd (omega (arith, bit-minus k a b, has-bit k (minus a b) (T-true _ t)))) (λ e. true-T _ (bit-has k a e)) (bit-cases k a)
-
-pub minus-has : (k a b : ℕ) → T (hasb k a) → T (not (hasb k b)) → T (hasb k (minus a b))
-minus-has k a b t n =
-    ⊎-elim (λ e. true-T _ (bit-has k (minus a b) (omega (arith, bit-minus k a b, has-bit k a (T-true _ t)))))
-    (λ e. absurd (T-not (hasb k b) n (true-T _ (bit-has k b e)))) (bit-cases k b)
+use Rattle.basics.proofs.TestLaws.{true-T, below-or-not}
 
 -- a set all of whose members are below w is below 2 ^ w
 less-pow : (n : ℕ) → n < 2 ^ n

@@ -1,27 +1,25 @@
 -- A rule's positions one after the other: the arcs of each symbol are added there, and the arcs there are put to those of the symbol.
 -- Assumes nothing.
-use Prim.Native.Nat.{ℕ, zero, suc, _+_, _*_, _-_, _/_, _%_, _^_, _≤_, _<_}
+use Prim.Native.Nat.{ℕ, _+_, _*_, _-_, _/_, _%_, _^_, _≤_, _<_}
 use mathlib.Core.Path.{_≡_, refl, sym, _∙_, ap, subst, subst⁻¹}
 use mathlib.Core.Logic.{_⊎_, inl, inr, ⊎-elim}
-use mathlib.Core.Bool.{Bool, true, false, not}
+use mathlib.Core.Bool.{Bool}
 use mathlib.Core.List.{List}
 use native.Mathlib.Omega.{arith}
-use lib.Dec.{T, eqb→eq, T-not}
+use lib.Dec.{T}
 use lib.ListN.{length, getD, set, length-set}
 use lib.Seq.{getD-set-same, getD-set-other}
-use Rattle.bits.specs.Bit.{bit, hasb, minus, union}
+use Rattle.bits.specs.Bit.{hasb, union}
 use Rattle.bits.proofs.MemberLaws.{hasb-below, union-cases, union-left, union-right}
 use Rattle.basics.specs.Lists.{word}
-use Rattle.basics.proofs.TestLaws.{below-suc, tested, and-left, and-right, true-T, T-true, same-or-not}
+use Rattle.basics.proofs.TestLaws.{below-suc, and-right, same-or-not}
 use Rattle.grammar.specs.Table.{attributes, lengthAt}
-use Rattle.grammar.specs.WellFormed.{SymbolFormed}
-use Rattle.reader.specs.Places.{symbolFrom, Shaped}
+use Rattle.reader.specs.Places.{symbolFrom}
 use Rattle.closing.specs.Rows.{leads, arcsAt}
 use Rattle.closing.proofs.ClosedLaws.{Kept}
 use Rattle.closing.proofs.GatherLaws.{arc-at, arcs-lt}
 use Rattle.inducing.specs.Closes.{Closes, ArcAt, Ends}
 use Rattle.inducing.specs.Arcs.{SpreadArc, Ruled, ArcsFit, Gathered}
-use Rattle.inducing.proofs.SetLaws.{minus-from, minus-has}
 use Rattle.inducing.proofs.ClosesLaws.{closes-none, closes-then}
 
 -- an arc that is gathered at a position: it starts at an attribute there, and the rows lead along it
@@ -44,60 +42,29 @@ module _ (entry : List ℕ) (base among : ℕ) (g : List ℕ) (p : ℕ) (arcs : 
   pub spread-start : Kept entry base among → Closes entry base among (SpreadArc g p arcs 0) entry
   spread-start k = closes-none entry base among (SpreadArc g p arcs 0) k (λ a b s. let h = s .placeFits in omega arith)
 
-  -- the ends of an arc that is missing are occurrences
-  pub missing-ends : ArcsFit g p among arcs → (n i x there missing : ℕ) → n ≡ lengthAt g p → i < n + 1 → x ≡ symbolFrom g p i
-      → missing ≡ minus (getD arcs x 0) there → Ends among i missing
-  missing-ends f n i x there missing e h q m k t =
-      f i (omega arith) k
-      (subst (λ (y : ℕ). T (hasb k (word arcs y))) q (minus-from k (word arcs x) there (subst (λ (s : ℕ). T (hasb k s)) m t)))
+  -- the ends of the arcs of the symbol at a position are occurrences
+  pub symbol-ends : ArcsFit g p among arcs → (n i x : ℕ) → n ≡ lengthAt g p → i < n + 1 → x ≡ symbolFrom g p i
+      → Ends among i (getD arcs x 0)
+  symbol-ends f n i x e h q = subst⁻¹ (λ (y : ℕ). Ends among i (word arcs y)) q (f i (omega arith))
 
-  pub spread-turn : (rows : List ℕ) (n i x count there missing : ℕ) (after : List ℕ) → Closes entry base among (SpreadArc g p arcs i) rows
-      → among < 2 ^ 64 → ArcsFit g p among arcs → n ≡ lengthAt g p → i < n + 1 → x ≡ symbolFrom g p i → there ≡ arcsAt rows base i count
-      → missing ≡ minus (getD arcs x 0) there → Closes rows base among (ArcAt i missing) after → Closes entry base among (SpreadArc g p arcs (i + 1)) after
-  spread-turn rows n i x count there missing after v fits f e h q a m u =
-      closes-then entry base among rows after (SpreadArc g p arcs i) (ArcAt i missing) (SpreadArc g p arcs (i + 1)) v u
-      (λ c d s. ⊎-elim (λ l. inl (small c d s, v .has c d (record { place = s .place; placeFits = l; arc = s .arc }))) (λ l. here c d s l)
+  pub spread-turn : (rows : List ℕ) (n i x : ℕ) (after : List ℕ) → Closes entry base among (SpreadArc g p arcs i) rows
+      → among < 2 ^ 64 → ArcsFit g p among arcs → n ≡ lengthAt g p → i < n + 1 → x ≡ symbolFrom g p i
+      → Closes rows base among (ArcAt i (getD arcs x 0)) after → Closes entry base among (SpreadArc g p arcs (i + 1)) after
+  spread-turn rows n i x after v fits f e h q u =
+      closes-then entry base among rows after (SpreadArc g p arcs i) (ArcAt i (word arcs x)) (SpreadArc g p arcs (i + 1)) v u
+      (λ c d s.
+          ⊎-elim (λ l. inl (small c d s, v .has c d (record { place = s .place; placeFits = l; arc = s .arc })))
+          (λ l.
+              inr (subst⁻¹ (λ (y : ℕ). ArcAt i (word arcs y) c d) q
+              (subst (λ (j : ℕ). ArcAt j (word arcs (symbolFrom g p j)) c d) l (s .arc))))
           (below-suc (s .place) i (omega (arith, s .placeFits))))
       (λ c d s. record { place = s .place; placeFits = omega (arith, s .placeFits); arc = s .arc })
-      (λ c d s.
-          record {
-              place = i;
-              placeFits = omega arith;
-              arc = record {
-                  number = s .number;
-                  member =
-                      subst (λ (y : ℕ). T (hasb (s .number) (word arcs y))) q
-                      (minus-from (s .number) (word arcs x) there (subst (λ (y : ℕ). T (hasb (s .number) y)) m (s .member)));
-                  start = s .start;
-                  end = s .end
-              }
-          })
+      (λ c d s. record { place = i; placeFits = omega arith; arc = subst (λ (y : ℕ). ArcAt i (word arcs y) c d) q s })
     where
       small : (c d : ℕ) → SpreadArc g p arcs (i + 1) c d → c < 64
       small c d s =
           hasb-below 64 c among fits
           (subst⁻¹ (λ (o : ℕ). T (hasb o among)) (s .arc .start) (f (s .place) (omega (arith, s .placeFits)) (s .arc .number) (s .arc .member) .0))
-      here : (c d : ℕ) (s : SpreadArc g p arcs (i + 1) c d) → s .place ≡ i → ((c < 64) × T (leads rows base c d)) ⊎ ArcAt i missing c d
-      here c d s l =
-          let k : ℕ = s .arc .number in
-          let start : c ≡ 8 * i + k / 8 = s .arc .start ∙ ap (λ (j : ℕ). 8 * j + k / 8) l in
-          let end : d ≡ 8 * i + k % 8 = s .arc .end ∙ ap (λ (j : ℕ). 8 * j + k % 8) l in
-          let member : T (hasb k (word arcs x)) =
-                  subst⁻¹ (λ (y : ℕ). T (hasb k (word arcs y))) q (subst (λ (j : ℕ). T (hasb k (word arcs (symbolFrom g p j)))) l (s .arc .member)) in
-          ⊎-elim
-          (λ t.
-              inl (small c d s,
-              subst⁻¹ (λ (o : ℕ). T (leads rows base o d)) start
-              (subst⁻¹ (λ (o : ℕ). T (leads rows base (8 * i + k / 8) o)) end
-              (arc-leads rows base i count k (subst (λ (y : ℕ). T (hasb k y)) a t)))))
-          (λ t.
-              inr (record {
-                  number = k;
-                  member = subst⁻¹ (λ (y : ℕ). T (hasb k y)) m (minus-has k (word arcs x) there member t);
-                  start = start;
-                  end = end
-              }))
-          (tested (hasb k there))
 
   pub spread-finish : (rows : List ℕ) (n i : ℕ) → Closes entry base among (SpreadArc g p arcs i) rows → n ≡ lengthAt g p → i ≤ n + 1 → n + 1 ≤ i
       → Closes entry base among (SpreadArc g p arcs (lengthAt g p + 1)) rows

@@ -3,19 +3,22 @@
 use Prim.Native.Nat.{ℕ, _+_, _*_, _/_, _%_, _≤_, _<_}
 use mathlib.Core.Path.{_≡_}
 use mathlib.Core.Logic.{_⊎_}
-use mathlib.Core.Bool.{cond}
 use mathlib.Core.List.{List}
 use lib.Dec.{T}
 use lib.ListN.{length}
 use Rattle.bits.specs.Bit.{hasb}
 use Rattle.basics.specs.Lists.{word}
 use Rattle.relations.specs.Paper.{Path⁺}
-use Rattle.closing.specs.Rows.{leads, added}
+use Rattle.closing.specs.Rows.{leads}
 use Rattle.closing.proofs.ClosedLaws.{Kept}
 
--- the arc from a to b added, unless a path leads from a to b already
-unfoldable pub joined : List ℕ → ℕ → ℕ → ℕ → ℕ → List ℕ
-joined rows base among a b = cond (leads rows base a b) rows (added rows base among a b)
+-- the arcs from each member of one set to each member of another
+abbrev pub Between : ℕ → ℕ → ℕ → ℕ → Type 0
+Between from to a b = T (hasb a from) × T (hasb b to)
+
+-- the ends of each arc are occurrences
+abbrev pub Inside : ℕ → (ℕ → ℕ → Type 0) → Type 0
+Inside among arc = (a b : ℕ) → arc a b → T (hasb a among) × T (hasb b among)
 
 -- a step from c to d: the rows lead there, or it is one of the arcs
 abbrev pub Step : List ℕ → ℕ → (ℕ → ℕ → Type 0) → ℕ → ℕ → Type 0
@@ -37,6 +40,6 @@ pub record ArcAt (i arcs c d : ℕ) : Type 0 where
   pub start : c ≡ 8 * i + number / 8
   pub end : d ≡ 8 * i + number % 8
 
--- the ends of each such arc are occurrences
+-- the ends of each of them are occurrences
 abbrev pub Ends : ℕ → ℕ → ℕ → Type 0
 Ends among i arcs = (k : ℕ) → T (hasb k arcs) → T (hasb (8 * i + k / 8) among) × T (hasb (8 * i + k % 8) among)

@@ -5,7 +5,7 @@ ghost use Prim.Native.Nat.{_+_, _*_, _≤_, _<_};
 ghost use lib.ListN.{length, getD};
 ghost use Rattle.closing.proofs.ClosedLaws.{Kept};
 ghost use Rattle.inducing.specs.Cycles.{cycleIn};
-ghost use Rattle.inducing.specs.Closes.{joined, Closes, ArcAt, Ends};
+ghost use Rattle.inducing.specs.Closes.{Between, Inside, Closes, ArcAt, Ends};
 ghost use mathlib.Core.Bool.{Bool};
 ghost use lib.Dec.{eqb};
 ghost use Prim.Native.Nat.{ℕ};
@@ -46,29 +46,37 @@ pub fn find_cycle(rows: &[u64], rules: usize) -> Cycle
     found
 }
 
-// Adds the arc from a to b unless a path leads there already: most arcs that are tried are there, and an addition looks at every row.
-fn join(rows: &mut [u64], base: usize, among: u64, a: usize, b: usize)
-    requires { ⌜ (base + 64 ≤ length (now rows)) × (a < 64) × (b < 64) ⌝ }
-    ensures { λ _. ⌜ now (rows .exit) ≡ joined (now (rows .entry)) base among a b ⌝ }
+// Adds the arcs from each member of `from` to each member of `to`: an addition looks at every row, so none is made where there are no arcs.
+fn join(rows: &mut [u64], base: usize, among: u64, from: u64, to: u64)
+    requires { ⌜ Kept (now rows) base among ⌝ }
+    requires { ⌜ Inside among (Between from to) ⌝ }
+    ensures { λ _. ⌜ Closes (now (rows .entry)) base among (Between from to) (now (rows .exit)) ⌝ }
 {
-    if bits::has(rows[base + a], b) {
+    if from == 0 {
         return;
     }
-    closing::add_arc(rows, base, among, a, b);
+    if to == 0 {
+        return;
+    }
+    closing::connect(rows, base, among, from, to);
 }
 
-// Adds the arcs of a set, in which 8a + b is the arc from attribute a to attribute b, at position i.
+// Adds the arcs of a set, in which 8a + b is the arc from attribute a to attribute b, at position i: attribute by attribute those that are
+// missing, up to the highest that has arcs.
 pub fn induce_at(rows: &mut [u64], base: usize, among: u64, i: usize, arcs: u64)
     requires { ⌜ (base + 64 ≤ length (now rows)) × (i < 8) ⌝ }
     requires { ⌜ Kept (now rows) base among ⌝ }
     requires { ⌜ Ends among i arcs ⌝ }
     ensures { λ _. ⌜ Closes (now (rows .entry)) base among (ArcAt i arcs) (now (rows .exit)) ⌝ }
 {
-    let mut left = arcs;
-    while left != 0 {
-        let k = bits::first(left);
-        left = bits::without(left, k);
-        join(rows, base, among, 8 * i + k / 8, 8 * i + k % 8);
+    for a in 0..8usize {
+        if arcs < bits::single(8 * a) {
+            return;
+        }
+        let o = 8 * i + a;
+        let targets = bits::raised(bits::field(arcs, 8 * a), 8 * i);
+        let missing = bits::minus(targets, rows[base + o]);
+        join(rows, base, among, bits::single(o), missing);
     }
 }
 
@@ -94,9 +102,11 @@ fn fill_function(words: &[u16], f: usize, rows: &mut [u64], base: usize, among: 
 {
     let target = reader::word(words, f);
     let count = argument_count(words, f);
+    let mut from = 0;
     for j in 0..count {
-        join(rows, base, among, reader::word(words, f + 2 + j), target);
+        from = bits::with(from, reader::word(words, f + 2 + j));
     }
+    join(rows, base, among, from, bits::single(target));
 }
 
 // The arcs of the functions of the rule at word p.
@@ -144,7 +154,7 @@ fn fill(words: &[u16], offsets: &[u16; 64], rows: &mut [u64])
     }
 }
 
-// Adds at each position of the rule at word p the arcs that its symbol has. Only those that are not there yet are looked at one by one.
+// Adds at each position of the rule at word p the arcs that its symbol has.
 pub fn spread(words: &[u16], p: usize, rows: &mut [u64], base: usize, among: u64, arcs: &[u64; 32])
     requires { ⌜ base + 64 ≤ length (now rows) ⌝ }
     requires { ⌜ said.Ruled (now words) p ⌝ }
@@ -154,9 +164,7 @@ pub fn spread(words: &[u16], p: usize, rows: &mut [u64], base: usize, among: u64
 {
     let n = reader::right_length(words, p);
     for i in 0..n + 1 {
-        let x = reader::symbol_of(words, p, i);
-        let there = closing::arcs_at(rows, base, i, reader::attributes(words, x));
-        induce_at(rows, base, among, i, bits::minus(arcs[x], there));
+        induce_at(rows, base, among, i, arcs[reader::symbol_of(words, p, i)]);
     }
 }
 

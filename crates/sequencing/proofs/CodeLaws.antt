@@ -9,17 +9,31 @@ use native.Mathlib.Omega.{arith}
 use native.Mathlib.Numerals.{add-one}
 use lib.Dec.{T, ltb, leb, eqb, T-not}
 use lib.ListN.{length, getD}
+use lib.Pow.{pow-pos}
 use borrow.Author.Tests.{lt-ltb, le-ltb, le-leb, lt-leb}
 use Rattle.basics.specs.Tests.{_and_}
 use Rattle.basics.specs.Lists.{word}
-use Rattle.basics.proofs.TestLaws.{and-intro, and-left, and-right, tested, same-test, same-or-not, below-or-not, true-T, T-true, T-false}
+use Rattle.basics.proofs.TestLaws.{and-intro, and-left, and-right, tested, same-test, same-or-not, below-or-not, true-T, false-T, T-true, T-false}
 use Rattle.bits.specs.Bit.{bit, number, hasb, collect, insert, remove, below, union, common, minus, field, lowest, raised, First}
-use Rattle.bits.proofs.BitLaws.{bit-above, bit-below, bit-of-zero, bit-has}
+use Rattle.bits.proofs.BitLaws.{bit-above, bit-below, bit-of-zero, bit-cases, bit-single-other, bit-has, bit-lacks, has-bit}
+use Rattle.bits.proofs.LowestLaws.{IsLowest, lowest-is, lowest-unique, bit-under-lowest}
 use Rattle.bits.proofs.SetLaws.{insert-lt, remove-less}
 use Rattle.bits.proofs.CollectLaws.{collect-lt, bit-collect-above}
 use Rattle.bits.proofs.MemberLaws.{
-    hasb-collect, hasb-below, hasb-ext, insert-cases, insert-new, insert-old, has-not, has-other, none-left, union-cases, union-left,
-    union-right, minus-both, both-minus
+  hasb-collect,
+  hasb-below,
+  hasb-ext,
+  insert-cases,
+  insert-new,
+  insert-old,
+  has-not,
+  has-other,
+  none-left,
+  union-cases,
+  union-left,
+  union-right,
+  minus-both,
+  both-minus,
 }
 use Rattle.bits.proofs.RestLaws.{rest-of}
 use Rattle.grammar.specs.Table.{attributes, nonterminal, lengthAt}
@@ -27,8 +41,23 @@ use Rattle.sets.specs.Visits.{setNumber, highest, lastSet, visits}
 use Rattle.reader.specs.Places.{symbolFrom, definingsAt, Shaped}
 use Rattle.reader.proofs.Blocks.{block-more, collect-rest, below-small}
 use Rattle.sequencing.specs.Masks.{
-    setMask, inheritedMask, synthesizedMask, childVisits, madeAttributes, visitFrom, madeFrom, visitReady, readyVisits, Few, Children,
-    Started, Closed, Blocked, handedUp, handedDown
+  setMask,
+  inheritedMask,
+  synthesizedMask,
+  childVisits,
+  madeAttributes,
+  visitFrom,
+  madeFrom,
+  visitReady,
+  readyVisits,
+  Few,
+  Children,
+  Started,
+  Leading,
+  Closed,
+  Blocked,
+  handedUp,
+  handedDown,
 }
 use Rattle.sequencing.proofs.MaskLaws.{mask-small, no-member}
 
@@ -58,10 +87,10 @@ pub masking-turn : (s : List ℕ) (x k mask a m r : ℕ) → Masking s x k mask 
 unfolding setNumber
 masking-turn s x k mask a m r w h e f =
     record {
-        inside = omega arith;
-        maskIs =
-            f
-            ∙ (ap₂ (λ (t : ℕ) (y : ℕ). cond (eqb t k) (insert a y) y) e (w .maskIs) ∙ collect-put a (λ a. eqb (setNumber s x a) k))
+      inside = omega arith;
+      maskIs =
+          f
+          ∙ (ap₂ (λ (t : ℕ) (y : ℕ). cond (eqb t k) (insert a y) y) e (w .maskIs) ∙ collect-put a (λ a. eqb (setNumber s x a) k));
     }
 
 pub masking-finish : (s : List ℕ) (x k mask a : ℕ) → Masking s x k mask a → 8 ≤ a → mask ≡ setMask s x k
@@ -84,10 +113,10 @@ pub climbing-turn : (s : List ℕ) (x last a m r : ℕ) → Climbing s x last a 
 unfolding setNumber highest
 climbing-turn s x last a m r w h e l f =
     record {
-        inside = omega arith;
-        lastIs =
-            f ∙ (ap₂ max (w .lastIs) e ∙ ap (λ (k : ℕ). highest k (λ a. setNumber s x a)) (sym (add-one a)));
-        small = omega (arith, w .small)
+      inside = omega arith;
+      lastIs =
+          f ∙ (ap₂ max (w .lastIs) e ∙ ap (λ (k : ℕ). highest k (λ a. setNumber s x a)) (sym (add-one a)));
+      small = omega (arith, w .small);
     }
 
 pub climbing-finish : (s : List ℕ) (x last a : ℕ) → Climbing s x last a → 8 ≤ a → last ≡ lastSet s x
@@ -197,15 +226,15 @@ module _ (g : List ℕ) (p : ℕ) where
   making-turn end made i x there part next w h e f q n =
       let b : there ≡ madeAttributes g (symbolFrom g p i) = f ∙ ap (madeAttributes g) e in
       record {
-          endIs = w .endIs;
-          inside = omega arith;
-          shaped = w .shaped;
-          madeIs =
-              n
-              ∙ (ap₂ union (q ∙ ap (λ (y : ℕ). y * 2 ^ (8 * i)) b) (w .madeIs)
-              ∙ block-more (λ o. madeFrom g p o) i (madeAttributes g (symbolFrom g p i))
-              (made-small g (symbolFrom g p i) (madeAttributes g (symbolFrom g p i)) (w .shaped .formed i (omega (arith, w .endIs)) .attributesFit) refl)
-              (λ a l. made-bit i a (omega (arith, w .endIs)) l))
+        endIs = w .endIs;
+        inside = omega arith;
+        shaped = w .shaped;
+        madeIs =
+            n
+            ∙ (ap₂ union (q ∙ ap (λ (y : ℕ). y * 2 ^ (8 * i)) b) (w .madeIs)
+            ∙ block-more (λ o. madeFrom g p o) i (madeAttributes g (symbolFrom g p i))
+            (made-small g (symbolFrom g p i) (madeAttributes g (symbolFrom g p i)) (w .shaped .formed i (omega (arith, w .endIs)) .attributesFit) refl)
+            (λ a l. made-bit i a (omega (arith, w .endIs)) l));
       }
 
   pub making-finish : (end made i : ℕ) → Making end made i → end ≤ i → made ≡ collect 64 (λ o. madeFrom g p o)
@@ -250,12 +279,15 @@ module _ (g s : List ℕ) (p : ℕ) where
   pub calling-start : (end : ℕ) → Shaped g p → Few s → end ≡ lengthAt g p → Calling end 0 0
   calling-start end w few e =
       record {
-          endIs = e; inside = omega arith; shaped = w; few = few;
-          foundIs =
-              sym (no-member 8 (collect 8 (λ b. visitFrom g s p b)) (collect-lt 8 _)
-              (λ b t.
-                  let h : b < 8 = hasb-below 8 b (collect 8 (λ b. visitFrom g s p b)) (collect-lt 8 _) t in
-                  subst (λ (x : Bool). T x) (hasb-collect 8 b _ h ∙ visit-none b h) t))
+        endIs = e;
+        inside = omega arith;
+        shaped = w;
+        few = few;
+        foundIs =
+            sym (no-member 8 (collect 8 (λ b. visitFrom g s p b)) (collect-lt 8 _)
+            (λ b t.
+            let h : b < 8 = hasb-below 8 b (collect 8 (λ b. visitFrom g s p b)) (collect-lt 8 _) t in
+            subst (λ (x : Bool). T x) (hasb-collect 8 b _ h ∙ visit-none b h) t));
       }
 
   pub calling-place : (end found i x there : ℕ) → Calling end found i → i < end → there ≡ childVisits g s x → (there < 256) × (8 * (i + 1) ≤ 56)
@@ -267,15 +299,15 @@ module _ (g s : List ℕ) (p : ℕ) where
   calling-turn end found i x there part next w h e f q n =
       let b : there ≡ childVisits g s (symbolFrom g p (i + 1)) = f ∙ ap (childVisits g s) e in
       record {
-          endIs = w .endIs;
-          inside = omega arith;
-          shaped = w .shaped;
-          few = w .few;
-          foundIs =
-              n
-              ∙ (ap₂ union (q ∙ ap (λ (y : ℕ). y * 2 ^ (8 * (i + 1))) b) (w .foundIs)
-              ∙ block-more (λ b. visitFrom g s p b) (i + 1) (childVisits g s (symbolFrom g p (i + 1)))
-              (child-small g s (symbolFrom g p (i + 1)) (childVisits g s (symbolFrom g p (i + 1))) (w .few) refl) (λ a l. visit-bit i a (omega (arith, w .endIs)) l))
+        endIs = w .endIs;
+        inside = omega arith;
+        shaped = w .shaped;
+        few = w .few;
+        foundIs =
+            n
+            ∙ (ap₂ union (q ∙ ap (λ (y : ℕ). y * 2 ^ (8 * (i + 1))) b) (w .foundIs)
+            ∙ block-more (λ b. visitFrom g s p b) (i + 1) (childVisits g s (symbolFrom g p (i + 1)))
+            (child-small g s (symbolFrom g p (i + 1)) (childVisits g s (symbolFrom g p (i + 1))) (w .few) refl) (λ a l. visit-bit i a (omega (arith, w .endIs)) l));
       }
 
   pub calling-finish : (end found i : ℕ) → Calling end found i → end ≤ i → found ≡ collect 64 (λ b. visitFrom g s p b)
@@ -310,11 +342,11 @@ pub record Blocking (rows : List ℕ) (base waiting left blocked : ℕ) : Type 0
 pub blocking-start : (rows : List ℕ) (base waiting : ℕ) → (base + 64 ≤ length rows) × Closed rows base → Blocking rows base waiting waiting 0
 blocking-start rows base waiting h =
     record {
-        room = h .0;
-        closed = h .1;
-        within = λ o t. t;
-        by = λ b t. absurd (T-not (hasb b 0) (none-left b) t);
-        all = λ b o t n u. absurd (T-not (hasb o waiting) n t)
+      room = h .0;
+      closed = h .1;
+      within = λ o t. t;
+      by = λ b t. absurd (T-not (hasb b 0) (none-left b) t);
+      all = λ b o t n u. absurd (T-not (hasb o waiting) n t);
     }
 
 -- row o
@@ -329,16 +361,16 @@ blocking-turn rows base waiting left blocked o rest next more w f e n q =
     subst⁻¹ (λ (x : ℕ). Blocking rows base waiting x more) (n ∙ ap (λ (x : ℕ). minus x (rowAt rows base o)) (rest-of left o rest f e))
     (subst⁻¹ (λ (x : ℕ). Blocking rows base waiting (minus (remove o left) (rowAt rows base o)) x) q
     (record {
-        room = w .room;
-        closed = w .closed;
-        within = λ b t. w .within b (was-left left o b (minus-both b (remove o left) (rowAt rows base o) t .0));
-        by = λ b t. ⊎-elim (λ u. w .by b u) (λ u. (o, w .within o (true-T _ (bit-has o left (f .member))), u)) (union-cases b blocked (rowAt rows base o) t);
-        all = λ b k t m u.
-            ⊎-elim
-            (λ d. ⊎-elim
-            (λ i. union-right b blocked (rowAt rows base o) (subst (λ (x : ℕ). T (hasb b (word rows (base + x)))) i u))
-            (λ i. union-left b blocked (rowAt rows base o) (w .all b k t i u)) (gone left o k d))
-            (λ d. union-right b blocked (rowAt rows base o) (w .closed o k b (f .small) d u)) (taken k m)
+      room = w .room;
+      closed = w .closed;
+      within = λ b t. w .within b (was-left left o b (minus-both b (remove o left) (rowAt rows base o) t .0));
+      by = λ b t. ⊎-elim (λ u. w .by b u) (λ u. (o, w .within o (true-T _ (bit-has o left (f .member))), u)) (union-cases b blocked (rowAt rows base o) t);
+      all = λ b k t m u.
+          ⊎-elim
+          (λ d. ⊎-elim
+          (λ i. union-right b blocked (rowAt rows base o) (subst (λ (x : ℕ). T (hasb b (word rows (base + x)))) i u))
+          (λ i. union-left b blocked (rowAt rows base o) (w .all b k t i u)) (gone left o k d))
+          (λ d. union-right b blocked (rowAt rows base o) (w .closed o k b (f .small) d u)) (taken k m);
     }))
   where
     taken : (k : ℕ) → T (not (hasb k (minus (remove o left) (rowAt rows base o)))) → T (not (hasb k (remove o left))) ⊎ T (hasb k (rowAt rows base o))
@@ -358,77 +390,91 @@ pub blocking-finish : (rows : List ℕ) (base waiting left blocked : ℕ) → Bl
     → Blocked rows base waiting blocked
 blocking-finish rows base waiting left blocked w e =
     record {
-        by = w .by;
-        all = λ b o t u. w .all b o t (subst⁻¹ (λ (x : ℕ). T (not (hasb o x))) e (none-left o)) u
+      by = w .by;
+      all = λ b o t u. w .all b o t (subst⁻¹ (λ (x : ℕ). T (not (hasb o x))) e (none-left o)) u;
     }
 
--- ---- the visits that are ready
+-- ---- the lowest visit that is ready
 module _ (g s : List ℕ) (p visits waiting : ℕ) where
-  pub record Sifting (left ready : ℕ) : Type 0 where
+  -- of the visits only those that are left may be ready
+  pub record Searching (left : ℕ) : Type 0 where
     pub children : Children g s p visits
-    pub fits : ready < 2 ^ 64
     pub within : (b : ℕ) → T (hasb b left) → T (hasb b visits)
-    pub forth : (b : ℕ) → T (hasb b ready) → T (hasb b visits) × T (visitReady g s p visits waiting b)
-    pub back : (b : ℕ) → T (hasb b visits) → T (not (hasb b left)) → T (visitReady g s p visits waiting b) → T (hasb b ready)
+    pub others : (b : ℕ) → T (hasb b visits) → T (not (hasb b left)) → T (visitReady g s p visits waiting b) → ⊥
 
-  pub sifting-start : Children g s p visits → Sifting visits 0
-  sifting-start h =
-      record {
-          children = h;
-          fits = omega arith;
-          within = λ b t. t;
-          forth = λ b t. absurd (T-not (hasb b 0) (none-left b) t);
-          back = λ b t n u. absurd (T-not (hasb b visits) n t)
-      }
+  pub searching-start : Children g s p visits → Searching visits
+  searching-start h = record { children = h; within = λ b t. t; others = λ b t n u. T-not (hasb b visits) n t }
 
   -- what is looked at is a visit of a child
-  pub sifting-child : (left ready b : ℕ) → Sifting left ready → First left b → b % 8 < Rattle.sets.specs.Visits.visits s (symbolFrom g p (b / 8))
-  sifting-child left ready b w f = w .children b (f .small) (w .within b (true-T _ (bit-has b left (f .member))))
+  pub searching-child : (left b : ℕ) → Searching left → First left b → b % 8 < Rattle.sets.specs.Visits.visits s (symbolFrom g p (b / 8))
+  searching-child left b w f = w .children b (f .small) (w .within b (true-T _ (bit-has b left (f .member))))
 
-  pub sifting-turn : (left ready b next more : ℕ) (t : Bool) → Sifting left ready → First left b → next ≡ remove b left
-      → t ≡ visitReady g s p visits waiting b → more ≡ cond t (insert b ready) ready → Sifting next more
-  sifting-turn left ready b next more t w f e q h =
-      subst⁻¹ (λ (x : ℕ). Sifting x more) e
-      (⊎-elim
-      (λ u.
-          subst⁻¹ (λ (x : ℕ). Sifting (remove b left) x) (h ∙ ap (λ (c : Bool). cond c (insert b ready) ready) (q ∙ T-true _ u))
-          (record {
-              children = w .children;
-              fits = insert-lt 64 b ready (f .small) (w .fits);
-              within = λ k i. w .within k (was-left left b k i);
-              forth = λ k i.
-                  ⊎-elim
-                  (λ j.
-                      (subst⁻¹ (λ (x : ℕ). T (hasb x visits)) j (w .within b (true-T _ (bit-has b left (f .member)))),
-                      subst⁻¹ (λ (x : ℕ). T (visitReady g s p visits waiting x)) j u))
-                  (λ j. w .forth k j) (insert-cases k b ready i);
-              back = λ k i n j.
-                  ⊎-elim (λ m. subst⁻¹ (λ (x : ℕ). T (hasb x (insert b ready))) m (insert-new b ready))
-                  (λ m. insert-old k b ready (w .back k i m j)) (gone left b k n)
-          }))
-      (λ u.
-          subst⁻¹ (λ (x : ℕ). Sifting (remove b left) x) (h ∙ ap (λ (c : Bool). cond c (insert b ready) ready) (q ∙ T-false _ u))
-          (record {
-              children = w .children;
-              fits = w .fits;
-              within = λ k i. w .within k (was-left left b k i);
-              forth = w .forth;
-              back = λ k i n j.
-                  ⊎-elim
-                  (λ m. absurd (T-not (visitReady g s p visits waiting b) u (subst (λ (x : ℕ). T (visitReady g s p visits waiting x)) m j)))
-                  (λ m. w .back k i m j) (gone left b k n)
-          })) (tested (visitReady g s p visits waiting b)))
+  pub searching-turn : (left b next : ℕ) (t : Bool) → Searching left → First left b → t ≡ visitReady g s p visits waiting b → t ≡ false
+      → next ≡ remove (lowest 64 left) left → Searching next
+  searching-turn left b next t w f q z e =
+      subst⁻¹ Searching (rest-of left b next f e)
+      (record {
+        children = w .children;
+        within = λ k i. w .within k (was-left left b k i);
+        others = λ k i n j.
+            ⊎-elim
+            (λ m. T-not (visitReady g s p visits waiting b) (false-T _ (sym q ∙ z)) (subst (λ (x : ℕ). T (visitReady g s p visits waiting x)) m j))
+            (λ m. w .others k i m j) (gone left b k n);
+      })
 
-  pub sifting-finish : (left ready : ℕ) → Sifting left ready → left ≡ 0 → ready ≡ readyVisits g s p visits waiting
+  ready-cases : (b : ℕ) → b < 64 → T (hasb b (readyVisits g s p visits waiting)) → T (hasb b visits) × T (visitReady g s p visits waiting b)
   unfolding readyVisits
-  sifting-finish left ready w e =
-      hasb-ext 64 ready (readyVisits g s p visits waiting) (w .fits) (collect-lt 64 _)
-      (λ b h.
-          same-test (hasb b ready) (hasb b (readyVisits g s p visits waiting))
-          (λ t. let v = w .forth b t in subst⁻¹ (λ (x : Bool). T x) (hasb-collect 64 b _ h) (and-intro _ _ (v .0) (v .1)))
-          (λ t.
-              let v = subst (λ (x : Bool). T x) (hasb-collect 64 b _ h) t in
-              w .back b (and-left _ _ v) (subst⁻¹ (λ (x : ℕ). T (not (hasb b x))) e (none-left b)) (and-right _ _ v)))
+  ready-cases b h t = let v = subst (λ (x : Bool). T x) (hasb-collect 64 b _ h) t in (and-left _ _ v, and-right _ _ v)
+
+  -- the first that is found is the lowest of all
+  pub searching-found : (left b alone : ℕ) (t : Bool) → Searching left → First left b → t ≡ visitReady g s p visits waiting b → t ≡ true
+      → alone ≡ 2 ^ b → Leading (readyVisits g s p visits waiting) alone
+  searching-found left b alone t w f q z e =
+      record {
+        lowest = λ k h. subst⁻¹ (λ (x : ℕ). First (readyVisits g s p visits waiting) x) (only k (subst (λ (x : ℕ). First x k) e h)) here;
+        none = λ h. absurd (omega (arith, e, pow-pos b));
+      }
+    where
+      only : (k : ℕ) → First (2 ^ b) k → k ≡ b
+      only k h = ⊎-elim (λ m. m) (λ m. absurd (omega (arith, h .member, bit-single-other k b m))) (same-or-not k b)
+
+      member : bit b (readyVisits g s p visits waiting) ≡ 1
+      member = unfold readyVisits in
+          has-bit b (readyVisits g s p visits waiting)
+          (hasb-collect 64 b _ (f .small)
+          ∙ T-true _ (and-intro _ _ (w .within b (true-T _ (bit-has b left (f .member)))) (true-T _ (sym q ∙ z))))
+
+      free : (i : ℕ) → i < b → bit i (readyVisits g s p visits waiting) ≡ 0
+      free i h =
+          ⊎-elim (λ m. m)
+          (λ m.
+          let v = ready-cases i (omega (arith, f .small)) (true-T _ (bit-has i (readyVisits g s p visits waiting) m)) in
+          absurd (w .others i (v .0) (false-T _ (bit-lacks i left (bit-under-lowest 64 i left (omega (arith, f .is))))) (v .1)))
+          (bit-cases i (readyVisits g s p visits waiting))
+
+      here : First (readyVisits g s p visits waiting) b
+      here =
+          record {
+            is = lowest-unique 64 (readyVisits g s p visits waiting) b (lowest 64 (readyVisits g s p visits waiting))
+                (record { within = omega (arith, f .small); member = λ h. member; free = free }) (lowest-is 64 (readyVisits g s p visits waiting));
+            small = f .small;
+            member = member;
+          }
+
+  -- where none is left, none is ready
+  pub searching-none : (left : ℕ) → Searching left → left ≡ 0 → Leading (readyVisits g s p visits waiting) 0
+  searching-none left w e =
+      record {
+        lowest = λ k h. absurd (omega (arith, h .member, bit-of-zero k));
+        none = λ h. hasb-ext 64 (readyVisits g s p visits waiting) 0 small (omega arith)
+            (λ b l. same-test (hasb b (readyVisits g s p visits waiting)) (hasb b 0)
+            (λ t. let v = ready-cases b l t in
+            absurd (w .others b (v .0) (subst⁻¹ (λ (x : ℕ). T (not (hasb b x))) e (none-left b)) (v .1)))
+            (λ t. absurd (T-not (hasb b 0) (none-left b) t)));
+      }
+    where
+      small : readyVisits g s p visits waiting < 2 ^ 64
+      small = unfold readyVisits in collect-lt 64 _
 
   -- the test as the code makes it
   pub later-one : (b bits low : ℕ) → bits ≡ field (8 * (b / 8)) visits → low ≡ lowest 64 bits → low < b % 8
@@ -458,10 +504,10 @@ pub started-by : (g s : List ℕ) (p x c v n l m d w : ℕ) → x ≡ symbolFrom
     → Started g s p c v l w
 started-by g s p x c v n l m d w e f h q k i j z =
     record {
-        computesAre = f;
-        visitsAre = h;
-        leavesAre = k ∙ ap below (q ∙ ap (λ (y : ℕ). visits s y) e);
-        waitingAre = z ∙ ap₂ minus i (j ∙ ap (λ (y : ℕ). inheritedMask s y 1) e)
+      computesAre = f;
+      visitsAre = h;
+      leavesAre = k ∙ ap below (q ∙ ap (λ (y : ℕ). visits s y) e);
+      waitingAre = z ∙ ap₂ minus i (j ∙ ap (λ (y : ℕ). inheritedMask s y 1) e);
     }
 
 pub up-by : (g s : List ℕ) (p b x up part w r : ℕ) → x ≡ symbolFrom g p (b / 8) → up ≡ synthesizedMask s x (b % 8 + 1) → part ≡ raised (8 * (b / 8)) up

@@ -32,8 +32,24 @@ use Rattle.sequences.specs.Actions.{Action, compute, visit, leave, decode, acti
 use Rattle.sequences.specs.Follows.{follows}
 use Rattle.sequences.specs.Order.{ready}
 use Rattle.sequences.proofs.ActionLaws.{
-    ChildVisit, LeftLeave, decode-compute, decode-number, belongs-compute, belongs-visit, belongs-leave, action-belongs, action-below,
-    decode-leave, makes-compute, compute-makes, makes-visit, visit-makes, makes-leave, leave-makes, synthesized-of, inherited-of
+  ChildVisit,
+  LeftLeave,
+  decode-compute,
+  decode-number,
+  belongs-compute,
+  belongs-visit,
+  belongs-leave,
+  action-belongs,
+  action-below,
+  decode-leave,
+  makes-compute,
+  compute-makes,
+  makes-visit,
+  visit-makes,
+  makes-leave,
+  leave-makes,
+  synthesized-of,
+  inherited-of,
 }
 use Rattle.sequences.proofs.OrderLaws.{ready-use}
 use Rattle.sequences.proofs.Ready.{always-ready}
@@ -42,12 +58,22 @@ use Rattle.sequences.proofs.Planned.{orderly}
 use Rattle.planning.specs.Answer.{edpPaths}
 use Rattle.sequencing.specs.Given.{Given}
 use Rattle.sequencing.specs.Remaining.{remains, remaining, Going, Taken, Done}
-use Rattle.sequencing.specs.Masks.{handedUp, handedDown, readyVisits, Children, Closed, Blocked}
+use Rattle.sequencing.specs.Masks.{handedUp, handedDown, readyVisits, Children, Leading, Closed, Blocked}
 use Rattle.sequencing.proofs.Makers.{Attribute, odd-of-visit, even-of-visit, visit-odd, visit-even}
 use Rattle.sequencing.proofs.ReadyLaws.{waits-attribute, free-quiet, quiet-free, VisitReady, free-visit, ready-visit, free-leave}
 use Rattle.sequencing.proofs.OrderSteps.{taken}
 use Rattle.sequencing.proofs.RemainsLaws.{
-    remains-compute, remains-visit, remains-leave, Kind, aCompute, aVisit, aLeave, kind-of, less-compute, less-visit, less-leave
+  remains-compute,
+  remains-visit,
+  remains-leave,
+  Kind,
+  aCompute,
+  aVisit,
+  aLeave,
+  kind-of,
+  less-compute,
+  less-visit,
+  less-leave,
 }
 use Rattle.sequencing.proofs.MaskLaws.{up-at, at-up, down-at, at-down, Passes, ready-at, at-ready}
 
@@ -112,17 +138,17 @@ module _ (g s rows : List ℕ) (p r : ℕ) (given : Given g s rows p r) where
           both-minus o c blocked t
           (not-T (hasb o blocked)
           (λ u.
-              let k = rule .by o u in
-              free-quiet g (idsOf g) s r orderly-rule five-visits (remains c v l) w going o (computed o h t) f (k .0) (k .1)
-              (subst (λ (x : Bool). T x) (row-path (k .0) o (waiting-fits (k .0) (k .1)) h) (k .2))))
+          let k = rule .by o u in
+          free-quiet g (idsOf g) s r orderly-rule five-visits (remains c v l) w going o (computed o h t) f (k .0) (k .1)
+          (subst (λ (x : Bool). T x) (row-path (k .0) o (waiting-fits (k .0) (k .1)) h) (k .2))))
 
       ready-compute : (o : ℕ) → o < 64 → T (hasb o (minus c blocked)) → Ready o
       ready-compute o h t =
           let u = minus-both o c blocked t in
           quiet-free g (idsOf g) s r orderly-rule five-visits (remains c v l) w going o (computed o h (u .0)) h
           (λ x k q.
-              T-not (hasb o blocked) (u .1)
-              (rule .all o x k (subst⁻¹ (λ (b : Bool). T b) (row-path x o (waiting-fits x k) h) q)))
+          T-not (hasb o blocked) (u .1)
+          (rule .all o x k (subst⁻¹ (λ (b : Bool). T b) (row-path x o (waiting-fits x k) h) q)))
 
       -- the lowest of them is next
       pub take-compute : (o : ℕ) → First (minus c blocked) o
@@ -131,22 +157,23 @@ module _ (g s rows : List ℕ) (p r : ℕ) (given : Given g s rows p r) where
           taken g (idsOf g) s r (remains c v l) w going o (left-compute o (f .small) here)
           (ready-compute o (f .small) (first-member _ o f))
           (λ b k t u.
-              under-first _ o b f k
-              (unblocked b (omega (arith, f .small)) (subst (λ (x : Bool). T x) (remains-compute c v l b (omega (arith, f .small))) t) u))
+          under-first _ o b f k
+          (unblocked b (omega (arith, f .small)) (subst (λ (x : Bool). T x) (remains-compute c v l b (omega (arith, f .small))) t) u))
           (remains (remove o c) v l) (less-compute c v l o (f .small)) (remove o w)
           (λ x t.
-              ⊎-elim (λ q. absurd (T-not (hasb o (remove o w)) (has-not o w) (subst (λ (y : ℕ). T (hasb y (remove o w))) q t)))
-              (λ q.
-                  (subst (λ (y : Bool). T y) (has-other o x w q) t,
-                  λ m. q (sym (makes-compute g s r o x (subst (λ (y : Action). T (makes g s r y x)) (decode-compute o (f .small)) m) .1))))
-              (same-or-not x o))
+          ⊎-elim (λ q. absurd (T-not (hasb o (remove o w)) (has-not o w) (subst (λ (y : ℕ). T (hasb y (remove o w))) q t)))
+          (λ q. (
+            subst (λ (y : Bool). T y) (has-other o x w q) t,
+            λ m. q (sym (makes-compute g s r o x (subst (λ (y : Action). T (makes g s r y x)) (decode-compute o (f .small)) m) .1)),
+          ))
+          (same-or-not x o))
           (λ x t n.
-              ⊎-elim
-              (λ q.
-                  absurd (n (subst⁻¹ (λ (y : ℕ). T (makes g s r (decode o) y)) q
-                  (subst⁻¹ (λ (y : Action). T (makes g s r y o)) (decode-compute o (f .small))
-                  (compute-makes g s r o (computed o (f .small) here))))))
-              (λ q. subst⁻¹ (λ (y : Bool). T y) (has-other o x w q) t) (same-or-not x o))
+          ⊎-elim
+          (λ q.
+          absurd (n (subst⁻¹ (λ (y : ℕ). T (makes g s r (decode o) y)) q
+          (subst⁻¹ (λ (y : Action). T (makes g s r y o)) (decode-compute o (f .small))
+          (compute-makes g s r o (computed o (f .small) here))))))
+          (λ q. subst⁻¹ (λ (y : Bool). T y) (has-other o x w q) t) (same-or-not x o))
         where
           here : T (hasb o c)
           here = minus-both o c blocked (first-member _ o f) .0
@@ -174,31 +201,31 @@ module _ (g s rows : List ℕ) (p r : ℕ) (given : Given g s rows p r) where
     passes-next : (b : ℕ) → b < 64 → Passes g s p v w b → Next (b / 8) (b % 8 + 1)
     passes-next b h u =
         record {
-            next = λ m k q t.
-                let e : 64 + 8 * (b / 8) + (m - 1) ≡ 64 + (8 * (b / 8) + (m - 1)) = omega arith in
-                u .next (m - 1) (omega arith)
-                (subst (λ (x : Bool). T x) (remains-visit c v l (8 * (b / 8) + (m - 1)) (omega arith))
-                (subst (λ (a : ℕ). T (remains c v l a)) e t));
-            handed = λ o t q k.
-                let e : 8 * (b / 8) + o % 8 ≡ o = omega arith in
-                u .handed (o % 8) (omega arith) (subst⁻¹ (λ (x : ℕ). T (hasb x w)) e t)
-                (set-from (b / 8) o q ∙ (k ∙ ap (λ (x : ℕ). 2 * (x + 1 - (b % 8 + 1))) (sym (visits-from (b / 8)))))
+          next = λ m k q t.
+              let e : 64 + 8 * (b / 8) + (m - 1) ≡ 64 + (8 * (b / 8) + (m - 1)) = omega arith in
+              u .next (m - 1) (omega arith)
+              (subst (λ (x : Bool). T x) (remains-visit c v l (8 * (b / 8) + (m - 1)) (omega arith))
+              (subst (λ (a : ℕ). T (remains c v l a)) e t));
+          handed = λ o t q k.
+              let e : 8 * (b / 8) + o % 8 ≡ o = omega arith in
+              u .handed (o % 8) (omega arith) (subst⁻¹ (λ (x : ℕ). T (hasb x w)) e t)
+              (set-from (b / 8) o q ∙ (k ∙ ap (λ (x : ℕ). 2 * (x + 1 - (b % 8 + 1))) (sym (visits-from (b / 8)))));
         }
 
     next-passes : (b : ℕ) → b < 64 → Next (b / 8) (b % 8 + 1) → Passes g s p v w b
     next-passes b h u =
         record {
-            next = λ k q t.
-                let e : 64 + (8 * (b / 8) + k) ≡ 64 + 8 * (b / 8) + (k + 1 - 1) = omega arith in
-                u .next (k + 1) (omega arith) (omega arith)
-                (subst (λ (a : ℕ). T (remains c v l a)) e (left-visit (8 * (b / 8) + k) (omega arith) t));
-            handed = λ a k t q.
-                let e : (8 * (b / 8) + a) / 8 ≡ b / 8 = omega arith in
-                let f : (8 * (b / 8) + a) % 8 ≡ a = omega arith in
-                u .handed (8 * (b / 8) + a) t e
-                (sym (set-from (b / 8) (8 * (b / 8) + a) e)
-                ∙ (ap (λ (x : ℕ). setNumber s (symbolFrom g p (b / 8)) x) f
-                ∙ (q ∙ ap (λ (x : ℕ). 2 * (x + 1 - (b % 8 + 1))) (visits-from (b / 8)))))
+          next = λ k q t.
+              let e : 64 + (8 * (b / 8) + k) ≡ 64 + 8 * (b / 8) + (k + 1 - 1) = omega arith in
+              u .next (k + 1) (omega arith) (omega arith)
+              (subst (λ (a : ℕ). T (remains c v l a)) e (left-visit (8 * (b / 8) + k) (omega arith) t));
+          handed = λ a k t q.
+              let e : (8 * (b / 8) + a) / 8 ≡ b / 8 = omega arith in
+              let f : (8 * (b / 8) + a) % 8 ≡ a = omega arith in
+              u .handed (8 * (b / 8) + a) t e
+              (sym (set-from (b / 8) (8 * (b / 8) + a) e)
+              ∙ (ap (λ (x : ℕ). setNumber s (symbolFrom g p (b / 8)) x) f
+              ∙ (q ∙ ap (λ (x : ℕ). 2 * (x + 1 - (b % 8 + 1))) (visits-from (b / 8)))));
         }
 
     ready-is-visit : (b : ℕ) → b < 64 → T (hasb b v) → Ready (64 + b) → T (hasb b (readyVisits g s p v w))
@@ -225,12 +252,13 @@ module _ (g s rows : List ℕ) (p r : ℕ) (given : Given g s rows p r) where
         (visit-is-ready b (first-member _ b f)) (λ a k t u. lower a k t u (kind-of a))
         (remains c (remove b v) l) (less-visit c v l b (f .small)) (minus w (handedUp g s p b))
         (λ o t.
-            let u = minus-both o w (handedUp g s p b) t in
-            (u .0, λ m. T-not (hasb o (handedUp g s p b)) (u .1) (up o m)))
+        let u = minus-both o w (handedUp g s p b) t in
+        (u .0, λ m. T-not (hasb o (handedUp g s p b)) (u .1) (up o m)))
         (λ o t n. both-minus o w (handedUp g s p b) t (not-T (hasb o (handedUp g s p b)) (λ u. n (of-up o t u))))
       where
         here : (b < 64) × T (hasb b v) × Passes g s p v w b
         here = ready-at g s p v w b (first-member _ b f)
+
         lower : (a : ℕ) → a < 64 + b → T (remains c v l a) → Ready a → Kind a → ⊥
         lower a k t u (aCompute h) = none a h t u
         lower a k t u (aVisit d h e) =
@@ -238,8 +266,10 @@ module _ (g s rows : List ℕ) (p r : ℕ) (given : Given g s rows p r) where
             (ready-is-visit d h (subst (λ (x : Bool). T x) (remains-visit c v l d h) (subst (λ (x : ℕ). T (remains c v l x)) e t))
             (subst (λ (x : ℕ). Ready x) e u))
         lower a k t u (aLeave d e) = omega (arith, f .small)
+
         visited : ChildVisit g s r (b / 8) (b % 8 + 1)
         visited = child b (f .small) (here .1)
+
         up : (o : ℕ) → T (makes g s r (decode (64 + b)) o) → T (hasb o (handedUp g s p b))
         up o m =
             let k = makes-visit g s r (b / 8) (b % 8 + 1) o (subst (λ (y : Action). T (makes g s r y o)) (visit-is b (f .small)) m) in
@@ -248,6 +278,7 @@ module _ (g s rows : List ℕ) (p r : ℕ) (given : Given g s rows p r) where
             (set-from (b / 8) o q
             ∙ (visit-odd g (idsOf g) s r orderly-rule (b / 8) (b % 8 + 1) o (k .0) (k .1)
             ∙ ap (λ (x : ℕ). 2 * (x + 1 - (b % 8 + 1)) - 1) (sym (visits-from (b / 8)))))
+
         of-up : (o : ℕ) → T (hasb o w) → T (hasb o (handedUp g s p b)) → T (makes g s r (decode (64 + b)) o)
         of-up o t u =
             let k = up-at g s p b o u in
@@ -286,30 +317,35 @@ module _ (g s rows : List ℕ) (p r : ℕ) (given : Given g s rows p r) where
           a =
               always-ready g (idsOf g) s r orderly-rule (remaining (remains c v l)) some
               (λ a m. going .actions a (passing-member actionNumbers (remains c v l) a m .1))
+
           there : T (remains c v l (a .0))
           there = passing-member actionNumbers (remains c v l) (a .0) (a .1) .1
+
           free : Ready (a .0)
           free b t f =
               ready-use (λ a b. follows g (idsOf g) s r a b) (remaining (remains c v l)) (a .0) (a .2) b
               (Rattle.basics.proofs.ListLaws.member-passing actionNumbers (remains c v l) b (action-below g s r b (going .actions b t)) t) f
+
           go : Kind (a .0) → (d : ℕ) × T (hasb d l) × Ready (128 + d)
           go (aCompute h) = absurd (noCompute (a .0) h there free)
           go (aVisit b h e) =
               absurd (noVisit b h (subst (λ (x : ℕ). T (remains c v l x)) e there) (subst (λ (x : ℕ). Ready x) e free))
-          go (aLeave b e) =
-              (b, subst (λ (x : Bool). T x) (remains-leave c v l b) (subst (λ (x : ℕ). T (remains c v l x)) e there),
-              subst (λ (x : ℕ). Ready x) e free)
+          go (aLeave b e) = (
+            b,
+            subst (λ (x : Bool). T x) (remains-leave c v l b) (subst (λ (x : ℕ). T (remains c v l x)) e there),
+            subst (λ (x : ℕ). Ready x) e free,
+          )
 
       -- and it is the lowest
       lowest-leave : (b d : ℕ) → First l b → T (hasb d l) → Ready (128 + d) → b ≡ d
       lowest-leave b d f t u =
           ⊎-elim
           (λ q.
-              let e : 128 + d ≡ 128 + (d + 1 - 1) = omega arith in
-              let k : 128 + b ≡ 128 + (b + 1 - 1) = omega arith in
-              absurd (free-leave g (idsOf g) s r orderly-rule five-visits (remains c v l) w going (b + 1) (d + 1) (left-side d t)
-              (subst (λ (a : ℕ). Ready a) e u) (omega arith) (omega arith)
-              (subst (λ (a : ℕ). T (remains c v l a)) k (left-leave b (first-member l b f)))))
+          let e : 128 + d ≡ 128 + (d + 1 - 1) = omega arith in
+          let k : 128 + b ≡ 128 + (b + 1 - 1) = omega arith in
+          absurd (free-leave g (idsOf g) s r orderly-rule five-visits (remains c v l) w going (b + 1) (d + 1) (left-side d t)
+          (subst (λ (a : ℕ). Ready a) e u) (omega arith) (omega arith)
+          (subst (λ (a : ℕ). T (remains c v l a)) k (left-leave b (first-member l b f)))))
           (λ q. ⊎-elim (λ m. absurd (under-first l b d f m t)) (λ m. omega arith) (below-or-not d b)) (below-or-not b d)
 
       pub take-leave : (b : ℕ) → First l b
@@ -320,12 +356,13 @@ module _ (g s rows : List ℕ) (p r : ℕ) (given : Given g s rows p r) where
           (λ a k t u. lower a k t u (kind-of a))
           (remains c v (remove b l)) (less-leave c v l b) (minus w (handedDown g s p b))
           (λ o t.
-              let u = minus-both o w (handedDown g s p b) t in
-              (u .0, λ m. T-not (hasb o (handedDown g s p b)) (u .1) (down o m)))
+          let u = minus-both o w (handedDown g s p b) t in
+          (u .0, λ m. T-not (hasb o (handedDown g s p b)) (u .1) (down o m)))
           (λ o t n. both-minus o w (handedDown g s p b) t (not-T (hasb o (handedDown g s p b)) (λ u. n (of-down o t u))))
         where
           here : T (hasb b l)
           here = first-member l b f
+
           lower : (a : ℕ) → a < 128 + b → T (remains c v l a) → Ready a → Kind a → ⊥
           lower a k t u (aCompute h) = noCompute a h t u
           lower a k t u (aVisit d h e) =
@@ -333,10 +370,11 @@ module _ (g s rows : List ℕ) (p r : ℕ) (given : Given g s rows p r) where
           lower a k t u (aLeave d e) =
               under-first l b d f (omega arith)
               (subst (λ (x : Bool). T x) (remains-leave c v l d) (subst (λ (x : ℕ). T (remains c v l x)) e t))
+
           down : (o : ℕ) → T (makes g s r (decode (128 + b)) o) → T (hasb o (handedDown g s p b))
           down o m =
               let k : T (inheritedOf g s r 0 (suc (b + 1)) o) =
-                      makes-leave g s r (b + 1) o (subst (λ (y : Action). T (makes g s r y o)) (leave-is b here) m) in
+              makes-leave g s r (b + 1) o (subst (λ (y : Action). T (makes g s r y o)) (leave-is b here) m) in
               let q : position o ≡ 0 = inherited-of g s r 0 (suc (b + 1)) o k .0 .stands in
               let z : o % 8 ≡ o = omega arith in
               let n : suc (b + 1) ≡ b + 2 = omega arith in
@@ -346,6 +384,7 @@ module _ (g s rows : List ℕ) (p r : ℕ) (given : Given g s rows p r) where
               ∙ (visit-even g (idsOf g) s r orderly-rule 0 (suc (b + 1)) o (left-nonterminal g (idsOf g) s r orderly-rule) k
               ∙ (ap (λ (x : ℕ). 2 * (visits s (symbolOf g r 0) + 1 - x)) n
               ∙ ap (λ (x : ℕ). 2 * (x + 1 - (b + 2))) (sym (visits-from 0))))))
+
           of-down : (o : ℕ) → T (hasb o w) → T (hasb o (handedDown g s p b)) → T (makes g s r (decode (128 + b)) o)
           of-down o t u =
               let k = down-at g s p b o u in
@@ -354,11 +393,11 @@ module _ (g s rows : List ℕ) (p r : ℕ) (given : Given g s rows p r) where
               let z : o % 8 ≡ o = omega (arith, k .0) in
               let n : b + 2 ≡ suc (b + 1) = omega arith in
               let e : setAt g (idsOf g) s r o ≡ 2 * (visits s (symbolOf g r 0) + 1 - suc (b + 1)) =
-                      sym (set-from 0 o q)
-                      ∙ (ap (λ (x : ℕ). setNumber s (symbolFrom g p 0) x) z
-                      ∙ (k .1
-                      ∙ (ap (λ (x : ℕ). 2 * (x + 1 - (b + 2))) (visits-from 0)
-                      ∙ ap (λ (x : ℕ). 2 * (visits s (symbolOf g r 0) + 1 - x)) n))) in
+              sym (set-from 0 o q)
+              ∙ (ap (λ (x : ℕ). setNumber s (symbolFrom g p 0) x) z
+              ∙ (k .1
+              ∙ (ap (λ (x : ℕ). 2 * (x + 1 - (b + 2))) (visits-from 0)
+              ∙ ap (λ (x : ℕ). 2 * (visits s (symbolOf g r 0) + 1 - x)) n))) in
               subst⁻¹ (λ (y : Action). T (makes g s r y o)) (leave-is b here)
               (leave-makes g s r (b + 1) o
               (even-of-visit g (idsOf g) s r orderly-rule 0 (suc (b + 1)) o a q (omega arith)
@@ -384,6 +423,7 @@ module _ (g s rows : List ℕ) (p r : ℕ) where
       row-below : (o : ℕ) → o < 64 → (k : ℕ) → T (hasb k (word rows (64 * r + o))) → k < 64
       row-below o h k t =
           hasb-below 64 k _ (collect-lt 64 (λ b. edpPaths g (idsOf g) (setsOf g (idsOf g)) r o b)) (subst (λ (x : ℕ). T (hasb k x)) (given .paths o h) t)
+
       has-path : (o b : ℕ) → o < 64 → b < 64 → T (hasb b (word rows (64 * r + o))) → Path⁺ (EDP g s r) o b
       has-path o b h m t =
           edp-path-exact g (given .good) s r (lt→ltb r (rules g) (given .counts)) o b .0
@@ -415,43 +455,43 @@ module _ (g s rows : List ℕ) (p r : ℕ) where
         (take-compute g s rows p r given c v l w going blocked k o (subst (λ (x : ℕ). First x o) e f))
 
     pub next-visit : (blocked ready calls b action c′ v′ l′ w′ : ℕ) → Given g s rows p r → Going g (idsOf g) s r (remains c v l) w
-        → Blocked rows (64 * r) w blocked → ready ≡ minus c blocked → ready ≡ 0 → calls ≡ readyVisits g s p v w → First calls b
+        → Blocked rows (64 * r) w blocked → ready ≡ minus c blocked → ready ≡ 0 → Leading (readyVisits g s p v w) calls → First calls b
         → Done action c′ v′ l′ w′ (64 + b) c (remove b v) l (minus w (handedUp g s p b))
         → Taken g (idsOf g) s r (remains c v l) action (remains c′ v′ l′) w′
     next-visit blocked ready calls b action c′ v′ l′ w′ given going k e z q f d =
         done-taken action c′ v′ l′ w′ (64 + b) c (remove b v) l (minus w (handedUp g s p b)) d
         (take-visit g s rows p r given c v l w going b (no-compute-ready g s rows p r given c v l w going blocked k (sym e ∙ z))
-        (subst (λ (x : ℕ). First x b) q f))
+        (q .lowest b f))
 
     -- a visit that is ready is a visit of a child
-    pub visit-child : (calls b : ℕ) → Given g s rows p r → Going g (idsOf g) s r (remains c v l) w → calls ≡ readyVisits g s p v w → First calls b
+    pub visit-child : (calls b : ℕ) → Given g s rows p r → Going g (idsOf g) s r (remains c v l) w → Leading (readyVisits g s p v w) calls → First calls b
         → b % 8 < visits s (symbolFrom g p (b / 8))
     visit-child calls b given going q f =
         children-left given going b (f .small)
-        (ready-at g s p v w b (subst (λ (x : ℕ). T (hasb b x)) q (first-member calls b f)) .1)
+        (ready-at g s p v w b (first-member _ b (q .lowest b f)) .1)
 
     pub next-leave : (blocked ready calls b action c′ v′ l′ w′ : ℕ) → Given g s rows p r → Going g (idsOf g) s r (remains c v l) w
         → 1 ≤ length (remaining (remains c v l)) → Blocked rows (64 * r) w blocked → ready ≡ minus c blocked → ready ≡ 0
-        → calls ≡ readyVisits g s p v w → calls ≡ 0 → First l b
+        → Leading (readyVisits g s p v w) calls → calls ≡ 0 → First l b
         → Done action c′ v′ l′ w′ (128 + b) c v (remove b l) (minus w (handedDown g s p b))
         → Taken g (idsOf g) s r (remains c v l) action (remains c′ v′ l′) w′
     next-leave blocked ready calls b action c′ v′ l′ w′ given going some k e z q n f d =
         done-taken action c′ v′ l′ w′ (128 + b) c v (remove b l) (minus w (handedDown g s p b)) d
         (take-leave g s rows p r given c v l w going some (no-compute-ready g s rows p r given c v l w going blocked k (sym e ∙ z))
-        (no-visit-ready g s rows p r given c v l w going (sym q ∙ n)) b f)
+        (no-visit-ready g s rows p r given c v l w going (q .none n)) b f)
 
     -- there is a leave
     pub leaves-left : (blocked ready calls : ℕ) → Given g s rows p r → Going g (idsOf g) s r (remains c v l) w
         → 1 ≤ length (remaining (remains c v l)) → Blocked rows (64 * r) w blocked → ready ≡ minus c blocked → ready ≡ 0
-        → calls ≡ readyVisits g s p v w → calls ≡ 0 → 0 < l
+        → Leading (readyVisits g s p v w) calls → calls ≡ 0 → 0 < l
     leaves-left blocked ready calls given going some k e z q n =
         ⊎-elim (λ h. h)
         (λ h.
-            let t = ready-leave g s rows p r given c v l w going some
-                    (no-compute-ready g s rows p r given c v l w going blocked k (sym e ∙ z))
-                    (no-visit-ready g s rows p r given c v l w going (sym q ∙ n)) in
-            let y : l ≡ 0 = omega arith in
-            absurd (T-not (hasb (t .0) 0) (none-left (t .0)) (subst (λ (x : ℕ). T (hasb (t .0) x)) y (t .1))))
+        let t = ready-leave g s rows p r given c v l w going some
+        (no-compute-ready g s rows p r given c v l w going blocked k (sym e ∙ z))
+        (no-visit-ready g s rows p r given c v l w going (q .none n)) in
+        let y : l ≡ 0 = omega arith in
+        absurd (T-not (hasb (t .0) 0) (none-left (t .0)) (subst (λ (x : ℕ). T (hasb (t .0) x)) y (t .1))))
         (below-or-not 0 l)
 
     pub leave-left : (b : ℕ) → Given g s rows p r → Going g (idsOf g) s r (remains c v l) w → First l b → b < visits s (symbolFrom g p 0)

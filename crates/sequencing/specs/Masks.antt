@@ -8,7 +8,7 @@ use mathlib.Core.List.{List}
 use lib.Dec.{T, ltb, leb, eqb}
 use Rattle.basics.specs.Tests.{_and_}
 use Rattle.basics.specs.Lists.{word}
-use Rattle.bits.specs.Bit.{hasb, collect, below, raised, field, common, minus, lowest}
+use Rattle.bits.specs.Bit.{hasb, collect, below, raised, field, common, minus, lowest, First}
 use Rattle.grammar.specs.Table.{attributes, nonterminal, lengthAt, position, attribute}
 use Rattle.reader.specs.Places.{symbolFrom, definingsAt}
 use Rattle.sets.specs.Visits.{setNumber, visits}
@@ -74,6 +74,11 @@ visitReady g s p left waiting b =
 -- the visits that are
 unfoldable pub readyVisits : List ℕ → List ℕ → ℕ → ℕ → ℕ → ℕ
 readyVisits g s p left waiting = collect 64 (λ b. hasb b left and visitReady g s p left waiting b)
+
+-- some stands for all: its lowest member is theirs, and it is empty only where they are none
+pub record Leading (all some : ℕ) : Type 0 where
+  pub lowest : (b : ℕ) → First some b → First all b
+  pub none : some ≡ 0 → all ≡ 0
 
 -- the rows of a rule are closed: what o leads to leads nowhere that o does not
 abbrev pub Closed : List ℕ → ℕ → Type 0

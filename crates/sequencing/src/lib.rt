@@ -204,20 +204,21 @@ fn visit_ready(words: &[u16], p: usize, sets: &[u16], visits: u64, waiting: u64,
     bits::common(bits::field(waiting, 8 * i), down) == 0
 }
 
-// The visits that are ready.
-fn ready_visits(words: &[u16], p: usize, sets: &[u16], visits: u64, waiting: u64) -> u64
+// The lowest visit that is ready, alone in a set, or no visit: those above it need no look.
+fn ready_visit(words: &[u16], p: usize, sets: &[u16], visits: u64, waiting: u64) -> u64
     requires { ⌜ p < 65536 ⌝ }
     requires { ⌜ masks.Children (now words) (now sets) p visits ⌝ }
-    ensures { λ r. ⌜ r ≡ masks.readyVisits (now (words .entry)) (now (sets .entry)) p visits waiting ⌝ }
+    ensures { λ r. ⌜ masks.Leading (masks.readyVisits (now (words .entry)) (now (sets .entry)) p visits waiting) r ⌝ }
 {
     let mut left = visits;
-    let mut ready = 0;
     while left != 0 {
         let b = bits::first(left);
-        left = bits::without(left, b);
-        ready = put(ready, b, visit_ready(words, p, sets, visits, waiting, b));
+        if visit_ready(words, p, sets, visits, waiting, b) {
+            return bits::single(b);
+        }
+        left = bits::rest(left);
     }
-    ready
+    0
 }
 
 // Compute occurrence o.
@@ -284,7 +285,7 @@ fn next(words: &[u16], p: usize, r: usize, sets: &[u16], rows: &[u64], state: St
     if computes != 0 {
         return compute(state, bits::first(computes));
     }
-    let visits = ready_visits(words, p, sets, state.visits, state.waiting);
+    let visits = ready_visit(words, p, sets, state.visits, state.waiting);
     if visits != 0 {
         return visit(words, p, sets, state, bits::first(visits));
     }
@@ -327,7 +328,14 @@ pub fn write(plan: &mut [u16], at: usize, block: &[u16])
 }
 
 // The visit-sequence of rule r, which starts at word p.
-pub fn sequence(words: &[u16], p: usize, r: usize, sets: &[u16; 256], rows: &[u64], plan: &mut [u16])
+pub fn sequence(
+    words: &[u16],
+    p: usize,
+    r: usize,
+    sets: &[u16; 256],
+    rows: &[u64],
+    plan: &mut [u16],
+)
     requires { ⌜ given.Given (now words) (now sets) (now rows) p r ⌝ }
     requires { ⌜ 256 + 112 * table.rules (now words) ≤ length (now plan) ⌝ }
     ensures { λ _. ⌜ now (plan .exit) ≡ given.written (now (plan .entry)) (256 + 112 * r) (sequenceWords (sequenceOf (now (words .entry)) (idsOf (now (words .entry))) (setsOf (now (words .entry)) (idsOf (now (words .entry)))) r)) ⌝ }

@@ -21,16 +21,31 @@ mul-p : tie.Need-mul-p
 mul-p c = search needs
 
 element-copy-out-p : tie.Need-element-copy-out-p
-element-copy-out-p c = few-rules (c .before .before .before .before .args .words .now) (c .before .before .before .before .args .offsets .now) (c .before .word .result) (c .before .before .before .before .pre .0) (below-of-known (c .before .before .before .before .args .words .now) (c .before .before .before .before .args .t .now) (c .before .before .before .before .args .n) (c .before .word .result) (c .before .before .before .before .pre .1 .0) (c .before .before .before .before .pre .1 .1) (c .before .word .ensures .0) (c .if1 .taken))
+element-copy-out-p c =
+    few-rules (c .before .before .before .before .args .words .now) (c .before .before .before .before .args .offsets .now) (c .before
+    .word .result) (c .before .before .before .before .pre .0) (below-of-known (c .before .before .before .before .args .words .now) (c
+    .before .before .before .before .args .t .now) (c .before .before .before .before .args .n) (c .before .word .result) (c .before
+    .before .before .before .pre .1 .0) (c .before .before .before .before .pre .1 .1) (c .before .word .ensures .0) (c .if1 .taken))
 
 cast-p : tie.Need-cast-p
 cast-p c = 
     record {
-        fits = omega (arith, offset-fits (c .before .before .before .before .before .args .words .now) (c .before .before .before .before .before .args .offsets .now) (c .before .before .word .result) (c .before .before .before .before .before .pre .0) (below-of-known (c .before .before .before .before .before .args .words .now) (c .before .before .before .before .before .args .t .now) (c .before .before .before .before .before .args .n) (c .before .before .word .result) (c .before .before .before .before .before .pre .1 .0) (c .before .before .before .before .before .pre .1 .1) (c .before .before .word .ensures .0) (c .before .if1 .taken)))
+        fits =
+            omega (arith, offset-fits (c .before .before .before .before .before .args .words .now) (c .before .before .before .before
+            .before .args .offsets .now) (c .before .before .word .result) (c .before .before .before .before .before .pre .0)
+            (below-of-known (c .before .before .before .before .before .args .words .now) (c .before .before .before .before .before .args
+            .t .now) (c .before .before .before .before .before .args .n) (c .before .before .word .result) (c .before .before .before
+            .before .before .pre .1 .0) (c .before .before .before .before .before .pre .1 .1) (c .before .before .word .ensures .0) (c
+            .before .if1 .taken)))
     }
 
 right-length-requires : tie.Need-right-length-requires
-right-length-requires c κs = offset-fits (c .before .before .before .before .before .args .words .now) (c .before .before .before .before .before .args .offsets .now) (c .before .before .word .result) (c .before .before .before .before .before .pre .0) (below-of-known (c .before .before .before .before .before .args .words .now) (c .before .before .before .before .before .args .t .now) (c .before .before .before .before .before .args .n) (c .before .before .word .result) (c .before .before .before .before .before .pre .1 .0) (c .before .before .before .before .before .pre .1 .1) (c .before .before .word .ensures .0) (c .before .if1 .taken))
+right-length-requires c κs =
+    offset-fits (c .before .before .before .before .before .args .words .now) (c .before .before .before .before .before .args .offsets
+    .now) (c .before .before .word .result) (c .before .before .before .before .before .pre .0) (below-of-known (c .before .before .before
+    .before .before .args .words .now) (c .before .before .before .before .before .args .t .now) (c .before .before .before .before .before
+    .args .n) (c .before .before .word .result) (c .before .before .before .before .before .pre .1 .0) (c .before .before .before .before
+    .before .pre .1 .1) (c .before .before .word .ensures .0) (c .before .if1 .taken))
 
 slots-match-requires : tie.Need-slots-match-requires
 slots-match-requires c κs = 

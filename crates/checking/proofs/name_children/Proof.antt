@@ -39,7 +39,11 @@ slice-read-named c = search (named-inside, needs)
 add-named : tie.Need-add-named Inv-loop μ-loop
 add-named c = 
     record {
-        fits = named-fits (c .before .before .before .before .before .before .args .named .now) (c .before .before .before .before .before .before .args .t .now) (c .before .before .before .before .before .before .args .n) (c .before .before .before .before .before .before .args .used) (c .before .before .before .loop .named) (c .before .before .before .loop .i) (c .before .word .result) (c .before .before .before .loop .inv) (omega arith)
+        fits =
+            named-fits (c .before .before .before .before .before .before .args .named .now) (c .before .before .before .before .before
+            .before .args .t .now) (c .before .before .before .before .before .before .args .n) (c .before .before .before .before .before
+            .before .args .used) (c .before .before .before .loop .named) (c .before .before .before .loop .i) (c .before .word .result) (c
+            .before .before .before .loop .inv) (omega arith)
             (c .before .word .ensures .0)
     }
 

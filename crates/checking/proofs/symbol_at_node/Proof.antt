@@ -22,7 +22,9 @@ element-copy-out-word c = search (few-rules, known-below)
 
 cast-word : tie.Need-cast-word
 cast-word c = 
-    record { fits = omega (arith, offset-fits (c .before .before .before .before .before .args .words .now) (c .before .before .before .before .before .args .offsets .now) (c .before .before .word .result) (c .before .before .before .before .before .pre .0) (search known-below)) }
+    record { fits =
+        omega (arith, offset-fits (c .before .before .before .before .before .args .words .now) (c .before .before .before .before .before
+        .args .offsets .now) (c .before .before .word .result) (c .before .before .before .before .before .pre .0) (search known-below)) }
 
 word-requires-2 : tie.Need-word-requires-2
 word-requires-2 c κs = search needs

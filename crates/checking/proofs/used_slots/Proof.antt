@@ -23,7 +23,9 @@ element-copy-out-right-length c = search (few-rules, known-below)
 
 cast-right-length : tie.Need-cast-right-length
 cast-right-length c = 
-    record { fits = omega (arith, offset-fits (c .before .before .before .before .before .args .words .now) (c .before .before .before .before .before .args .offsets .now) (c .before .before .word .result) (c .before .before .before .before .before .pre .0) (search known-below)) }
+    record { fits =
+        omega (arith, offset-fits (c .before .before .before .before .before .args .words .now) (c .before .before .before .before .before
+        .args .offsets .now) (c .before .before .word .result) (c .before .before .before .before .before .pre .0) (search known-below)) }
 
 right-length-requires : tie.Need-right-length-requires
 right-length-requires c κs = search (offset-fits, known-below)

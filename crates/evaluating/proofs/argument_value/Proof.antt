@@ -15,7 +15,9 @@ value-requires : tie.Need-value-requires
 value-requires c κs = search needs
 
 returns : tie.Need-returns
-returns c = named-value _ (c .before .before .before .before .before .args .values .now) _ _ (c .before .before .word .ensures .0) (c .before .cell .ensures) (c .value .ensures) (c .value .ok)
+returns c =
+    named-value _ (c .before .before .before .before .before .args .values .now) _ _ (c .before .before .word .ensures .0) (c .before .cell
+    .ensures) (c .value .ensures) (c .value .ok)
 
 pub argument-value-spec : {M : Type 1} → statement M
 argument-value-spec = tie.close (tie.spec word-requires cell-requires value-requires returns)

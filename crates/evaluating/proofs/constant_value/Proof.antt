@@ -17,7 +17,9 @@ constant-requires : tie.Need-constant-requires
 constant-requires c κs = search needs
 
 returns : tie.Need-returns
-returns c = named-constant (c .before .before .before .args .words .now) (c .before .before .before .args .f) (c .before .word .ensures .0) (c .constant .ensures) (c .constant .ok)
+returns c =
+    named-constant (c .before .before .before .args .words .now) (c .before .before .before .args .f) (c .before .word .ensures .0) (c
+    .constant .ensures) (c .constant .ok)
 
 pub constant-value-spec : {M : Type 1} → statement M
 constant-value-spec =

@@ -19,16 +19,22 @@ function-starts-requires : tie.Need-function-starts-requires Inv-loop μ-loop
 function-starts-requires c κs = ((c .before .before .before .pre .0), (c .before .before .before .pre .1 .0))
 
 loop-holds : tie.Need-loop-holds Inv-loop μ-loop
-loop-holds c = running-start (record { good = (c .before .before .before .before .pre .0); sound = (c .before .before .before .before .pre .1 .1 .0); planned = (c .before .before .before .before .pre .1 .1 .1 .0); tree = (c .before .before .before .before .pre .1 .1 .1 .1) }) _
+loop-holds c =
+    running-start (record { good = (c .before .before .before .before .pre .0); sound = (c .before .before .before .before .pre .1 .1 .0);
+    planned = (c .before .before .before .before .pre .1 .1 .1 .0); tree = (c .before .before .before .before .pre .1 .1 .1 .1) }) _
 
 same-length : tie.Need-same-length Inv-loop μ-loop
 same-length c = running-length (c .before .before .loop .inv)
 
 returns : tie.Need-returns Inv-loop μ-loop
-returns c = (stopped-answer (c .before .before .loop .inv) (omega arith) (c .if1 .taken), stopped-values (c .before .before .loop .inv) (omega arith) (c .if1 .taken))
+returns c =
+    (stopped-answer (c .before .before .loop .inv) (omega arith) (c .if1 .taken), stopped-values (c .before .before .loop .inv) (omega
+    arith) (c .if1 .taken))
 
 step-requires : tie.Need-step-requires Inv-loop μ-loop
-step-requires c κs = running-ready (c .before .before .before .before .before .before .loop .inv) (omega arith) (c .before .before .before .before .before .before .before .function-starts .ensures)
+step-requires c κs =
+    running-ready (c .before .before .before .before .before .before .loop .inv) (omega arith) (c .before .before .before .before .before
+    .before .before .function-starts .ensures)
 
 add-count : tie.Need-add-count Inv-loop μ-loop
 add-count c = search needs
@@ -37,7 +43,9 @@ loop-less : tie.Need-loop-less Inv-loop μ-loop
 loop-less c = search needs
 
 loop-again : tie.Need-loop-again Inv-loop μ-loop
-loop-again c = running-turn (c .before .before .before .before .before .before .before .before .loop .inv) (omega arith) (c .before .before .before .before .before .before .if1 .left) (c .before .step .ensures)
+loop-again c =
+    running-turn (c .before .before .before .before .before .before .before .before .loop .inv) (omega arith) (c .before .before .before
+    .before .before .before .if1 .left) (c .before .step .ensures)
 
 same-length-2 : tie.Need-same-length-2 Inv-loop μ-loop
 same-length-2 c = running-length (c .before .loop .inv)

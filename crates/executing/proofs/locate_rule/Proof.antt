@@ -20,10 +20,14 @@ first-function-requires : tie.Need-first-function-requires Inv-loop μ-loop
 first-function-requires c κs = omega (arith, rule-fits (c .before .args .words .now) (c .before .args .r) (c .before .pre .0) (omega arith))
 
 function-count-requires : tie.Need-function-count-requires Inv-loop μ-loop
-function-count-requires c κs = omega (arith, rule-fits (c .before .before .args .words .now) (c .before .before .args .r) (c .before .before .pre .0) (omega arith))
+function-count-requires c κs =
+    omega (arith, rule-fits (c .before .before .args .words .now) (c .before .before .args .r) (c .before .before .pre .0) (omega arith))
 
 loop-holds : tie.Need-loop-holds Inv-loop μ-loop
-loop-holds c = (functions-counted _ _ _ _ (c .before .before .before .pre .1 .0 .1) (c .function-count .ensures .0), locating-start _ _ _ _ _ (c .before .before .before .pre .0) (c .before .before .before .pre .1 .0 .0) (c .before .before .before .pre .1 .0 .1) (c .before .before .before .pre .1 .1) (c .before .first-function .ensures .0))
+loop-holds c =
+    (functions-counted _ _ _ _ (c .before .before .before .pre .1 .0 .1) (c .function-count .ensures .0), locating-start _ _ _ _ _ (c
+    .before .before .before .pre .0) (c .before .before .before .pre .1 .0 .0) (c .before .before .before .pre .1 .0 .1) (c .before .before
+    .before .pre .1 .1) (c .before .first-function .ensures .0))
 
 word-requires : tie.Need-word-requires Inv-loop μ-loop
 word-requires c κs = search needs
@@ -41,7 +45,9 @@ mul-starts-2 : tie.Need-mul-starts-2 Inv-loop μ-loop
 mul-starts-2 c = search needs
 
 element-write-starts : tie.Need-element-write-starts Inv-loop μ-loop
-element-write-starts c = let t = target-word _ _ _ _ _ _ _ _ (c .before .before .loop .inv .1) (c .before .before .loop .inv .0) (c .before .loop-test .taken) (c .word .ensures .0) in omega (arith, t .1)
+element-write-starts c =
+    let t = target-word _ _ _ _ _ _ _ _ (c .before .before .loop .inv .1) (c .before .before .loop .inv .0) (c .before .loop-test .taken)
+    (c .word .ensures .0) in omega (arith, t .1)
 
 next-function-requires : tie.Need-next-function-requires Inv-loop μ-loop
 next-function-requires c κs = omega (arith, located-fits _ _ _ _ _ _ (c .before .before .loop .inv .1))
@@ -53,7 +59,9 @@ loop-less : tie.Need-loop-less Inv-loop μ-loop
 loop-less c = search needs
 
 loop-again : tie.Need-loop-again Inv-loop μ-loop
-loop-again c = ((c .before .before .before .loop .inv .0), locating-turn _ _ _ _ _ _ _ _ _ (c .before .before .before .loop .inv .1) (c .before .before .before .loop .inv .0) (c .before .before .loop-test .taken) (c .before .word .ensures .0) (c .next-function .ensures .0))
+loop-again c =
+    ((c .before .before .before .loop .inv .0), locating-turn _ _ _ _ _ _ _ _ _ (c .before .before .before .loop .inv .1) (c .before
+    .before .before .loop .inv .0) (c .before .before .loop-test .taken) (c .before .word .ensures .0) (c .next-function .ensures .0))
 
 returns : tie.Need-returns Inv-loop μ-loop
 returns c = locating-finish _ _ _ _ _ _ _ (c .before .loop .inv .1) (c .before .loop .inv .0) (c .loop-test .left)

@@ -39,7 +39,11 @@ same-length-3 : tie.Need-same-length-3
 same-length-3 c = search needs
 
 returns : tie.Need-returns
-returns c = run-done _ _ _ _ _ _ _ _ _ _ (c .before .before .before .before .before .before .before .before .run .ensures .0) (c .before .before .before .before .before .before .before .before .run .ensures .1 .0) (c .before .before .before .before .before .before .before .before .run .ensures .1 .1 .0) (c .before .before .before .before .before .before .before .before .run .ensures .1 .1 .1) _ (c .before .ran .given .1)
+returns c =
+    run-done _ _ _ _ _ _ _ _ _ _ (c .before .before .before .before .before .before .before .before .run .ensures .0) (c .before .before
+    .before .before .before .before .before .before .run .ensures .1 .0) (c .before .before .before .before .before .before .before .before
+    .run .ensures .1 .1 .0) (c .before .before .before .before .before .before .before .before .run .ensures .1 .1 .1) _ (c .before .ran
+    .given .1)
 
 same-length-4 : tie.Need-same-length-4
 same-length-4 c = search needs
@@ -51,7 +55,11 @@ same-length-6 : tie.Need-same-length-6
 same-length-6 c = search needs
 
 returns-2 : tie.Need-returns-2
-returns-2 c = run-stopped _ _ _ _ _ _ _ _ _ _ (c .before .before .before .before .before .before .before .before .run .ensures .0) (c .before .before .before .before .before .before .before .before .run .ensures .1 .0) (c .before .before .before .before .before .before .before .before .run .ensures .1 .1 .0) (c .before .before .before .before .before .before .before .before .run .ensures .1 .1 .1) _ (c .before .ran2 .given .1)
+returns-2 c =
+    run-stopped _ _ _ _ _ _ _ _ _ _ (c .before .before .before .before .before .before .before .before .run .ensures .0) (c .before .before
+    .before .before .before .before .before .before .run .ensures .1 .0) (c .before .before .before .before .before .before .before .before
+    .run .ensures .1 .1 .0) (c .before .before .before .before .before .before .before .before .run .ensures .1 .1 .1) _ (c .before .ran2
+    .given .1)
 
 same-length-7 : tie.Need-same-length-7
 same-length-7 c = search needs
@@ -63,7 +71,13 @@ same-length-9 : tie.Need-same-length-9
 same-length-9 c = search needs
 
 returns-3 : tie.Need-returns-3
-returns-3 c = run-refused _ _ _ _ _ _ _ _ _ _ (c .before .before .before .before .before .before .before .before .before .before .before .before .run .ensures .0) (c .before .before .before .before .before .before .before .before .before .before .before .before .run .ensures .1 .0) (c .before .before .before .before .before .before .before .before .before .before .before .before .run .ensures .1 .1 .0) (c .before .before .before .before .before .before .before .before .before .before .before .before .run .ensures .1 .1 .1) _ _ _ _ _ (c .before .before .before .before .before .ran3 .given .1) (c .refuse .ensures .0) (c .refuse .ensures .1 .0) (c .refuse .ensures .1 .1 .0) (c .refuse .ensures .1 .1 .1)
+returns-3 c =
+    run-refused _ _ _ _ _ _ _ _ _ _ (c .before .before .before .before .before .before .before .before .before .before .before .before .run
+    .ensures .0) (c .before .before .before .before .before .before .before .before .before .before .before .before .run .ensures .1 .0) (c
+    .before .before .before .before .before .before .before .before .before .before .before .before .run .ensures .1 .1 .0) (c .before
+    .before .before .before .before .before .before .before .before .before .before .before .run .ensures .1 .1 .1) _ _ _ _ _ (c .before
+    .before .before .before .before .ran3 .given .1) (c .refuse .ensures .0) (c .refuse .ensures .1 .0) (c .refuse .ensures .1 .1 .0) (c
+    .refuse .ensures .1 .1 .1)
 
 pub skarnuth-run-spec : {M : Type 1} → statement M
 skarnuth-run-spec =

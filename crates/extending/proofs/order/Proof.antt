@@ -22,19 +22,30 @@ loop-holds : tie.Need-loop-holds Inv-loop μ-loop
 loop-holds c = (search needs, order-start (c .before .before .args .words .now) (c .before .before .args .sets .now))
 
 mul-descents : tie.Need-mul-descents Inv-loop μ-loop
-mul-descents c = omega (arith, few-symbols (c .before .before .before .before .args .words .now) (c .before .before .before .before .pre) (c .before .before .word .result) (c .before .before .word .ensures .0))
+mul-descents c =
+    omega (arith, few-symbols (c .before .before .before .before .args .words .now) (c .before .before .before .before .pre) (c .before
+    .before .word .result) (c .before .before .word .ensures .0))
 
 attributes-requires : tie.Need-attributes-requires Inv-loop μ-loop
-attributes-requires c κs = omega (arith, few-symbols (c .before .before .before .before .args .words .now) (c .before .before .before .before .pre) (c .before .before .word .result) (c .before .before .word .ensures .0))
+attributes-requires c κs =
+    omega (arith, few-symbols (c .before .before .before .before .args .words .now) (c .before .before .before .before .pre) (c .before
+    .before .word .result) (c .before .before .word .ensures .0))
 
 descents-requires : tie.Need-descents-requires Inv-loop μ-loop
-descents-requires c κs = (omega (arith, few-symbols (c .before .before .before .before .before .args .words .now) (c .before .before .before .before .before .pre) (c .before .before .before .word .result) (c .before .before .before .word .ensures .0)), few-attributes (c .before .before .before .before .before .args .words .now) (c .before .before .before .before .before .pre) (c .before .before .before .word .result) (c .before .before .loop .x) (c .attributes .result) (c .before .before .before .word .ensures .0) (omega arith) (c .attributes .ensures .0))
+descents-requires c κs =
+    (omega (arith, few-symbols (c .before .before .before .before .before .args .words .now) (c .before .before .before .before .before
+    .pre) (c .before .before .before .word .result) (c .before .before .before .word .ensures .0)), few-attributes (c .before .before
+    .before .before .before .args .words .now) (c .before .before .before .before .before .pre) (c .before .before .before .word .result)
+    (c .before .before .loop .x) (c .attributes .result) (c .before .before .before .word .ensures .0) (omega arith) (c .attributes
+    .ensures .0))
 
 mul-arcs : tie.Need-mul-arcs Inv-loop μ-loop
 mul-arcs c = search needs
 
 array-write-arcs : tie.Need-array-write-arcs Inv-loop μ-loop
-array-write-arcs c = omega (arith, few-symbols (c .before .before .before .before .before .before .args .words .now) (c .before .before .before .before .before .before .pre) (c .before .before .before .before .word .result) (c .before .before .before .before .word .ensures .0))
+array-write-arcs c =
+    omega (arith, few-symbols (c .before .before .before .before .before .before .args .words .now) (c .before .before .before .before
+    .before .before .pre) (c .before .before .before .before .word .result) (c .before .before .before .before .word .ensures .0))
 
 add-x : tie.Need-add-x Inv-loop μ-loop
 add-x c = search needs
@@ -43,10 +54,18 @@ loop-less : tie.Need-loop-less Inv-loop μ-loop
 loop-less c = search needs
 
 loop-again : tie.Need-loop-again Inv-loop μ-loop
-loop-again c = (search needs, order-turn (c .before .before .before .before .before .before .args .words .now) (c .before .before .before .before .before .before .args .sets .now) (c .before .before .before .loop .arcs) (c .before .before .before .loop .x) (c .before .attributes .result) (c .descents .result) (c .before .before .before .loop .inv .1) (omega (arith, few-symbols (c .before .before .before .before .before .before .args .words .now) (c .before .before .before .before .before .before .pre) (c .before .before .before .before .word .result) (c .before .before .before .before .word .ensures .0))) (c .before .attributes .ensures .0) (c .descents .ensures))
+loop-again c =
+    (search needs, order-turn (c .before .before .before .before .before .before .args .words .now) (c .before .before .before .before
+    .before .before .args .sets .now) (c .before .before .before .loop .arcs) (c .before .before .before .loop .x) (c .before .attributes
+    .result) (c .descents .result) (c .before .before .before .loop .inv .1) (omega (arith, few-symbols (c .before .before .before .before
+    .before .before .args .words .now) (c .before .before .before .before .before .before .pre) (c .before .before .before .before .word
+    .result) (c .before .before .before .before .word .ensures .0))) (c .before .attributes .ensures .0) (c .descents .ensures))
 
 returns : tie.Need-returns Inv-loop μ-loop
-returns c = order-end (c .before .before .before .before .args .words .now) (c .before .before .before .before .args .sets .now) (c .before .loop .arcs) (c .before .loop .x) (c .before .before .word .result) (c .before .loop .inv .1) (c .before .before .word .ensures .0) (omega arith) (omega arith)
+returns c =
+    order-end (c .before .before .before .before .args .words .now) (c .before .before .before .before .args .sets .now) (c .before .loop
+    .arcs) (c .before .loop .x) (c .before .before .word .result) (c .before .loop .inv .1) (c .before .before .word .ensures .0) (omega
+    arith) (omega arith)
 
 pub order-spec : {M : Type 1} → statement M
 order-spec =

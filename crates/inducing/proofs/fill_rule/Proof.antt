@@ -11,7 +11,8 @@ use Rattle.inducing.proofs.fill_rule.Statement.{statement}
 use Rattle.inducing.proofs.fill_rule.Tie as tie
 
 abbrev Inv-loop : tie.InvT-loop
-Inv-loop words p rows₀ base among count f₀ k₀ rows f k = (k ≤ count) × (f ≡ functionAt words p k) × (f ≤ 131075 + 6 * k) × Closes rows₀ base among (RuleArc words p k) rows
+Inv-loop words p rows₀ base among count f₀ k₀ rows f k =
+    (k ≤ count) × (f ≡ functionAt words p k) × (f ≤ 131075 + 6 * k) × Closes rows₀ base among (RuleArc words p k) rows
 
 abbrev μ-loop : tie.MeasureT-loop
 μ-loop words p rows₀ base among count f₀ k₀ rows f k = count - k
@@ -26,7 +27,12 @@ loop-holds : tie.Need-loop-holds Inv-loop μ-loop
 loop-holds c = (search needs, search needs, search needs, search rule-start)
 
 fill-function-requires : tie.Need-fill-function-requires Inv-loop μ-loop
-fill-function-requires c κs = ((search needs, (c .before .before .loop .inv .3 .kept .room)), (function-fits (c .before .before .before .before .before .before .before .args .words .now) (c .before .before .before .before .before .before .before .args .p) (c .before .before .before .before .before .before .before .args .among) (c .before .before .loop .k) (c .before .before .before .before .function-count .result) (c .before .before .loop .f) (c .before .before .before .before .before .before .before .pre .1 .0) (omega arith) (c .before .before .before .before .function-count .ensures .0) (c .before .before .loop .inv .1), (c .before .before .loop .inv .3 .kept)))
+fill-function-requires c κs =
+    ((search needs, (c .before .before .loop .inv .3 .kept .room)), (function-fits (c .before .before .before .before .before .before
+    .before .args .words .now) (c .before .before .before .before .before .before .before .args .p) (c .before .before .before .before
+    .before .before .before .args .among) (c .before .before .loop .k) (c .before .before .before .before .function-count .result) (c
+    .before .before .loop .f) (c .before .before .before .before .before .before .before .pre .1 .0) (omega arith) (c .before .before
+    .before .before .function-count .ensures .0) (c .before .before .loop .inv .1), (c .before .before .loop .inv .3 .kept)))
 
 next-function-requires : tie.Need-next-function-requires Inv-loop μ-loop
 next-function-requires c κs = search needs
@@ -38,7 +44,17 @@ loop-less : tie.Need-loop-less Inv-loop μ-loop
 loop-less c = search needs
 
 loop-again : tie.Need-loop-again Inv-loop μ-loop
-loop-again c = (search needs, search next-place, search needs, rule-turn (c .before .before .before .before .before .before .before .before .before .before .before .args .rows .now) (c .before .before .before .before .before .before .before .before .before .before .before .args .base) (c .before .before .before .before .before .before .before .before .before .before .before .args .among) (c .before .before .before .before .before .before .before .before .before .before .before .args .words .now) (c .before .before .before .before .before .before .before .before .before .before .before .args .p) (c .before .before .before .before .before .before .loop .rows) (c .before .before .before .before .before .before .loop .k) (c .before .before .before .before .before .before .before .before .function-count .result) (c .before .before .before .before .before .before .loop .f) _ (c .before .before .before .before .before .before .loop .inv .3) (search needs) (c .before .before .before .before .before .before .before .before .before .before .before .pre .1 .0) (omega arith) (c .before .before .before .before .before .before .before .before .function-count .ensures .0) (c .before .before .before .before .before .before .loop .inv .1) (c .before .before .before .fill-function .ensures))
+loop-again c =
+    (search needs, search next-place, search needs, rule-turn (c .before .before .before .before .before .before .before .before .before
+    .before .before .args .rows .now) (c .before .before .before .before .before .before .before .before .before .before .before .args
+    .base) (c .before .before .before .before .before .before .before .before .before .before .before .args .among) (c .before .before
+    .before .before .before .before .before .before .before .before .before .args .words .now) (c .before .before .before .before .before
+    .before .before .before .before .before .before .args .p) (c .before .before .before .before .before .before .loop .rows) (c .before
+    .before .before .before .before .before .loop .k) (c .before .before .before .before .before .before .before .before .function-count
+    .result) (c .before .before .before .before .before .before .loop .f) _ (c .before .before .before .before .before .before .loop .inv
+    .3) (search needs) (c .before .before .before .before .before .before .before .before .before .before .before .pre .1 .0) (omega arith)
+    (c .before .before .before .before .before .before .before .before .function-count .ensures .0) (c .before .before .before .before
+    .before .before .loop .inv .1) (c .before .before .before .fill-function .ensures))
 
 same-length : tie.Need-same-length Inv-loop μ-loop
 same-length c = search needs

@@ -50,7 +50,10 @@ loop-less : tie.Need-loop-less Inv-loop μ-loop Inv-search μ-search
 loop-less c = search needs
 
 loop-again : tie.Need-loop-again Inv-loop μ-loop Inv-search μ-search
-loop-again c = (search needs, (c .before .before .before .before .loop .inv .1), row-passed (c .before .before .before .before .before .before .before .before .args .rows .now) (c .before .before .before .before .before .before .search .r) (c .before .before .before .before .loop .o) (c .before .has .result) (c .before .before .before .before .loop .inv .2) (c .before .has .ensures) (c .if1 .left))
+loop-again c =
+    (search needs, (c .before .before .before .before .loop .inv .1), row-passed (c .before .before .before .before .before .before .before
+    .before .args .rows .now) (c .before .before .before .before .before .before .search .r) (c .before .before .before .before .loop .o)
+    (c .before .has .result) (c .before .before .before .before .loop .inv .2) (c .before .has .ensures) (c .if1 .left))
 
 add-r : tie.Need-add-r Inv-loop μ-loop Inv-search μ-search
 add-r c = search needs
@@ -59,13 +62,21 @@ search-less : tie.Need-search-less Inv-loop μ-loop Inv-search μ-search
 search-less c = search needs
 
 search-again : tie.Need-search-again Inv-loop μ-loop Inv-search μ-search
-search-again c = (search needs, (c .before .loop .inv .1), rule-passed (c .before .before .before .before .before .args .rows .now) (c .before .before .before .search .r) (c .before .loop .o) (c .before .before .before .search .inv .2) (c .before .loop .inv .2) (omega arith))
+search-again c =
+    (search needs, (c .before .loop .inv .1), rule-passed (c .before .before .before .before .before .args .rows .now) (c .before .before
+    .before .search .r) (c .before .loop .o) (c .before .before .before .search .inv .2) (c .before .loop .inv .2) (omega arith))
 
 returns : tie.Need-returns Inv-loop μ-loop Inv-search μ-search
-returns c = search-none (c .before .before .before .args .rows .now) (c .before .before .before .args .rules) (c .before .search .r) (c .before .search .found) (c .before .search .inv .2) (omega arith) (c .before .search .inv .1)
+returns c =
+    search-none (c .before .before .before .args .rows .now) (c .before .before .before .args .rules) (c .before .search .r) (c .before
+    .search .found) (c .before .search .inv .2) (omega arith) (c .before .search .inv .1)
 
 returns-2 : tie.Need-returns-2 Inv-loop μ-loop Inv-search μ-search
-returns-2 c = search-found (c .before .before .before .before .before .before .before .before .args .rows .now) (c .before .before .before .before .before .before .before .before .args .rules) (c .before .before .before .before .before .before .search .r) (c .before .before .before .before .loop .o) (c .before .has .result) (omega arith) (omega arith) (c .before .before .before .before .before .before .search .inv .2) (c .before .before .before .before .loop .inv .2) (c .before .has .ensures) (c .if1 .taken)
+returns-2 c =
+    search-found (c .before .before .before .before .before .before .before .before .args .rows .now) (c .before .before .before .before
+    .before .before .before .before .args .rules) (c .before .before .before .before .before .before .search .r) (c .before .before .before
+    .before .loop .o) (c .before .has .result) (omega arith) (omega arith) (c .before .before .before .before .before .before .search .inv
+    .2) (c .before .before .before .before .loop .inv .2) (c .before .has .ensures) (c .if1 .taken)
 
 pub find-cycle-spec : {M : Type 1} → statement M
 find-cycle-spec =

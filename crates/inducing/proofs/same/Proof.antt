@@ -28,7 +28,9 @@ element-copy-out-if1-2 : tie.Need-element-copy-out-if1-2 Inv-loop μ-loop
 element-copy-out-if1-2 c = search needs
 
 returns : tie.Need-returns Inv-loop μ-loop
-returns c = agree-stop (c .before .before .before .before .before .args .a .now) (c .before .before .before .before .before .args .b .now) 32 (c .before .before .before .before .loop .x) (omega arith) (c .if1 .taken)
+returns c =
+    agree-stop (c .before .before .before .before .before .args .a .now) (c .before .before .before .before .before .args .b .now) 32 (c
+    .before .before .before .before .loop .x) (omega arith) (c .if1 .taken)
 
 add-x : tie.Need-add-x Inv-loop μ-loop
 add-x c = search needs
@@ -37,10 +39,14 @@ loop-less : tie.Need-loop-less Inv-loop μ-loop
 loop-less c = search needs
 
 loop-again : tie.Need-loop-again Inv-loop μ-loop
-loop-again c = (search needs, agree-more (c .before .before .before .before .before .args .a .now) (c .before .before .before .before .before .args .b .now) (c .before .before .before .before .loop .x) (c .before .before .before .before .loop .inv .1) (c .if1 .left))
+loop-again c =
+    (search needs, agree-more (c .before .before .before .before .before .args .a .now) (c .before .before .before .before .before .args .b
+    .now) (c .before .before .before .before .loop .x) (c .before .before .before .before .loop .inv .1) (c .if1 .left))
 
 returns-2 : tie.Need-returns-2 Inv-loop μ-loop
-returns-2 c = agree-end (c .before .before .args .a .now) (c .before .before .args .b .now) 32 (c .before .loop .x) (c .before .loop .inv .1) (omega arith)
+returns-2 c =
+    agree-end (c .before .before .args .a .now) (c .before .before .args .b .now) 32 (c .before .loop .x) (c .before .loop .inv .1) (omega
+    arith)
 
 pub same-spec : {M : Type 1} → statement M
 same-spec =

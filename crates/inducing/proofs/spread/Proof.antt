@@ -1,11 +1,9 @@
--- The invariant: the arcs of the symbols at the first i positions are there. At position i those that are there already are left out,
--- and the others are added.
+-- The invariant: the arcs of the symbols at the first i positions are there, and the rows are closed.
 use Prim.Native.Nat.{_+_, _≤_, _-_}
-use native.Mathlib.Omega.{arith}
 use borrow.Author.Needs.{needs}
 use Rattle.inducing.specs.Arcs.{SpreadArc}
 use Rattle.inducing.specs.Closes.{Closes}
-use Rattle.inducing.proofs.SpreadLaws.{position-small, symbol-small, count-small, missing-ends, spread-start, spread-turn, spread-finish}
+use Rattle.inducing.proofs.SpreadLaws.{position-small, symbol-small, symbol-ends, spread-start, spread-turn, spread-finish}
 use Rattle.inducing.proofs.spread.Statement.{statement}
 use Rattle.inducing.proofs.spread.Tie as tie
 
@@ -27,23 +25,14 @@ loop-holds c = (search needs, search spread-start)
 symbol-of-requires : tie.Need-symbol-of-requires Inv-loop μ-loop
 symbol-of-requires c κs = search needs
 
-attributes-requires : tie.Need-attributes-requires Inv-loop μ-loop
-attributes-requires c κs = search needs
+mul-induce-at : tie.Need-mul-induce-at Inv-loop μ-loop
+mul-induce-at c = search needs
 
-arcs-at-requires : tie.Need-arcs-at-requires Inv-loop μ-loop
-arcs-at-requires c κs = ((c .before .before .before .before .loop .inv .1 .kept .room), position-small (c .before .before .before .before .before .before .before .before .args .words .now) (c .before .before .before .before .before .before .before .before .args .p) (c .before .before .before .before .before .before .before .before .pre .1 .0) (c .before .before .before .before .before .right-length .result) (c .before .before .before .before .loop .i) (c .before .before .symbol-of .result) (c .before .before .before .before .before .right-length .ensures .0) (omega arith) (c .before .before .symbol-of .ensures .0), count-small (c .before .before .before .before .before .before .before .before .args .words .now) (c .before .before .before .before .before .before .before .before .args .p) (c .before .before .before .before .before .before .before .before .pre .1 .0) (c .before .before .before .before .before .right-length .result) (c .before .before .before .before .loop .i) (c .before .before .symbol-of .result) (c .before .before .before .before .before .right-length .ensures .0) (omega arith) (c .before .before .symbol-of .ensures .0) (c .attributes .result) (c .attributes .ensures .0))
-
-mul-minus : tie.Need-mul-minus Inv-loop μ-loop
-mul-minus c = search needs
-
-element-copy-out-minus : tie.Need-element-copy-out-minus Inv-loop μ-loop
-element-copy-out-minus c = symbol-small (c .before .before .before .before .before .before .before .before .before .before .args .words .now) (c .before .before .before .before .before .before .before .before .before .before .args .p) (c .before .before .before .before .before .before .before .before .before .before .pre .1 .0) (c .before .before .before .before .before .before .before .right-length .result) (c .before .before .before .before .before .before .loop .i) (c .before .before .before .before .symbol-of .result) (c .before .before .before .before .before .before .before .right-length .ensures .0) (omega arith) (c .before .before .before .before .symbol-of .ensures .0)
-
-minus-requires : tie.Need-minus-requires Inv-loop μ-loop
-minus-requires c κs = search needs
+element-copy-out-induce-at : tie.Need-element-copy-out-induce-at Inv-loop μ-loop
+element-copy-out-induce-at c = search (symbol-small, needs)
 
 induce-at-requires : tie.Need-induce-at-requires Inv-loop μ-loop
-induce-at-requires c κs = (((c .before .before .before .before .before .before .before .before .loop .inv .1 .kept .room), position-small (c .before .before .before .before .before .before .before .before .before .before .before .before .args .words .now) (c .before .before .before .before .before .before .before .before .before .before .before .before .args .p) (c .before .before .before .before .before .before .before .before .before .before .before .before .pre .1 .0) (c .before .before .before .before .before .before .before .before .before .right-length .result) (c .before .before .before .before .before .before .before .before .loop .i) (c .before .before .before .before .before .before .symbol-of .result) (c .before .before .before .before .before .before .before .before .before .right-length .ensures .0) (omega arith) (c .before .before .before .before .before .before .symbol-of .ensures .0)), ((c .before .before .before .before .before .before .before .before .loop .inv .1 .kept), missing-ends (c .before .before .before .before .before .before .before .before .before .before .before .before .args .rows .now) (c .before .before .before .before .before .before .before .before .before .before .before .before .args .base) (c .before .before .before .before .before .before .before .before .before .before .before .before .args .among) (c .before .before .before .before .before .before .before .before .before .before .before .before .args .words .now) (c .before .before .before .before .before .before .before .before .before .before .before .before .args .p) (c .before .before .before .before .before .before .before .before .before .before .before .before .args .arcs .now) (c .before .before .before .before .before .before .before .before .before .before .before .before .pre .1 .1 .0) (c .before .before .before .before .before .before .before .before .before .right-length .result) (c .before .before .before .before .before .before .before .before .loop .i) (c .before .before .before .before .before .before .symbol-of .result) (c .before .before .before .arcs-at .result) (c .minus .result) (c .before .before .before .before .before .before .before .before .before .right-length .ensures .0) (omega arith) (c .before .before .before .before .before .before .symbol-of .ensures .0) (c .minus .ensures)))
+induce-at-requires c κs = ((search needs, search (position-small, needs)), (search needs, search (symbol-ends, needs)))
 
 add-i : tie.Need-add-i Inv-loop μ-loop
 add-i c = search needs
@@ -52,7 +41,13 @@ loop-less : tie.Need-loop-less Inv-loop μ-loop
 loop-less c = search needs
 
 loop-again : tie.Need-loop-again Inv-loop μ-loop
-loop-again c = (search needs, spread-turn (c .before .before .before .before .before .before .before .before .before .before .before .before .before .before .before .args .rows .now) (c .before .before .before .before .before .before .before .before .before .before .before .before .before .before .before .args .base) (c .before .before .before .before .before .before .before .before .before .before .before .before .before .before .before .args .among) (c .before .before .before .before .before .before .before .before .before .before .before .before .before .before .before .args .words .now) (c .before .before .before .before .before .before .before .before .before .before .before .before .before .before .before .args .p) (c .before .before .before .before .before .before .before .before .before .before .before .before .before .before .before .args .arcs .now) (c .before .before .before .before .before .before .before .before .before .before .before .loop .rows) (c .before .before .before .before .before .before .before .before .before .before .before .before .right-length .result) (c .before .before .before .before .before .before .before .before .before .before .before .loop .i) (c .before .before .before .before .before .before .before .before .before .symbol-of .result) (c .before .before .before .before .before .before .before .attributes .result) (c .before .before .before .before .before .before .arcs-at .result) (c .before .before .before .minus .result) _ (c .before .before .before .before .before .before .before .before .before .before .before .loop .inv .1) (search needs) (c .before .before .before .before .before .before .before .before .before .before .before .before .before .before .before .pre .1 .1 .0) (c .before .before .before .before .before .before .before .before .before .before .before .before .right-length .ensures .0) (omega arith) (c .before .before .before .before .before .before .before .before .before .symbol-of .ensures .0) (c .before .before .before .before .before .before .arcs-at .ensures) (c .before .before .before .minus .ensures) (c .before .before .induce-at .ensures))
+loop-again c =
+    (search needs,
+    search
+    (spread-turn, needs, (c .before .before .before .before .before .before .before .loop .inv .1),
+    (c .before .before .before .before .before .before .before .before .before .before .before .pre .1 .1 .0),
+    (c .before .before .before .before .before .before .before .before .right-length .ensures .0),
+    (c .before .before .before .before .symbol-of .ensures .0), (c .before .before .induce-at .ensures)))
 
 same-length : tie.Need-same-length Inv-loop μ-loop
 same-length c = search needs
@@ -70,11 +65,8 @@ spread-spec =
     add-i-end
     loop-holds
     symbol-of-requires
-    attributes-requires
-    arcs-at-requires
-    mul-minus
-    element-copy-out-minus
-    minus-requires
+    mul-induce-at
+    element-copy-out-induce-at
     induce-at-requires
     add-i
     loop-less

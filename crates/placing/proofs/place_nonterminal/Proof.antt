@@ -32,7 +32,9 @@ mask-requires c κs = search needs
 
 place-symbol-requires : tie.Need-place-symbol-requires
 place-symbol-requires c κs = 
-    let few : c .before .before .before .attributes .result ≤ 8 = omega (arith, c .before .before .before .before .before .before .before .before .pre .0 .attributesFit, c .before .before .before .attributes .ensures .0) in
+    let few : c .before .before .before .attributes .result ≤ 8 =
+        omega (arith, c .before .before .before .before .before .before .before .before .pre .0 .attributesFit, c .before .before .before
+        .attributes .ensures .0) in
     (omega arith, below-fits (c .before .before .before .attributes .result) (c .before .before .below .result) few (c .before .before .below .ensures))
 
 same-length : tie.Need-same-length

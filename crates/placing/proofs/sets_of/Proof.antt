@@ -23,7 +23,8 @@ word-requires : tie.Need-word-requires Inv-loop μ-loop
 word-requires c κs = search needs
 
 loop-holds : tie.Need-loop-holds Inv-loop μ-loop
-loop-holds c = (c .word .ensures .0, sets-start (c .before .before .args .words .now) (c .before .before .args .ids .now) (c .before .before .pre))
+loop-holds c =
+    (c .word .ensures .0, sets-start (c .before .before .args .words .now) (c .before .before .args .ids .now) (c .before .before .pre))
 
 mul-place-nonterminal : tie.Need-mul-place-nonterminal Inv-loop μ-loop
 mul-place-nonterminal c = search needs

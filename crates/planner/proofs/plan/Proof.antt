@@ -28,13 +28,19 @@ enum-known-space : tie.Need-enum-known-space
 enum-known-space c = search needs
 
 returns-2 : tie.Need-returns-2
-returns-2 c = room-refused _ _ _ _ _ _ (c .before .before .before .before .before .before .read .ensures .0) (c .before .before .before .before .enum-told .given .1) (c .before .before .before .room .ensures) (c .before .space .given .1)
+returns-2 c =
+    room-refused _ _ _ _ _ _ (c .before .before .before .before .before .before .read .ensures .0) (c .before .before .before .before
+    .enum-told .given .1) (c .before .before .before .room .ensures) (c .before .space .given .1)
 
 enum-told-2 : tie.Need-enum-told-2
 enum-told-2 c = search needs
 
 plan-relations-requires : tie.Need-plan-relations-requires
-plan-relations-requires c κs = ready-read _ _ _ _ _ _ (c .before .before .before .before .before .before .before .before .before .read .ensures .0) (c .before .before .before .before .before .before .before .enum-told .given .1) (c .before .before .before .before .before .before .before .before .before .read .ensures .1) (c .before .before .before .before .before .before .room .ensures) (c .before .before .before .before .enum-told2 .given .1)
+plan-relations-requires c κs =
+    ready-read _ _ _ _ _ _ (c .before .before .before .before .before .before .before .before .before .read .ensures .0) (c .before .before
+    .before .before .before .before .before .enum-told .given .1) (c .before .before .before .before .before .before .before .before
+    .before .read .ensures .1) (c .before .before .before .before .before .before .room .ensures) (c .before .before .before .before
+    .enum-told2 .given .1)
 
 same-length : tie.Need-same-length
 same-length c = search needs
@@ -43,7 +49,13 @@ same-length-2 : tie.Need-same-length-2
 same-length-2 c = search needs
 
 returns-3 : tie.Need-returns-3
-returns-3 c = relations-came _ _ _ _ _ _ _ _ (c .before .before .before .before .before .before .before .before .before .before .before .before .before .before .read .ensures .0) (c .before .before .before .before .before .before .before .before .before .before .before .before .enum-told .given .1) (c .before .before .before .before .before .before .before .before .before .before .before .room .ensures) (c .before .before .before .before .before .before .before .before .before .enum-told2 .given .1) (c .before .before .before .before .plan-relations .ensures .0) (c .before .before .before .before .plan-relations .ensures .1 .0) (c .before .before .before .before .plan-relations .ensures .1 .1)
+returns-3 c =
+    relations-came _ _ _ _ _ _ _ _ (c .before .before .before .before .before .before .before .before .before .before .before .before
+    .before .before .read .ensures .0) (c .before .before .before .before .before .before .before .before .before .before .before .before
+    .enum-told .given .1) (c .before .before .before .before .before .before .before .before .before .before .before .room .ensures) (c
+    .before .before .before .before .before .before .before .before .before .enum-told2 .given .1) (c .before .before .before .before
+    .plan-relations .ensures .0) (c .before .before .before .before .plan-relations .ensures .1 .0) (c .before .before .before .before
+    .plan-relations .ensures .1 .1)
 
 pub plan-spec : {M : Type 1} → statement M
 plan-spec =

@@ -25,13 +25,17 @@ word-requires : tie.Need-word-requires Inv-loop μ-loop
 word-requires c κs = search needs
 
 loop-holds : tie.Need-loop-holds Inv-loop μ-loop
-loop-holds c = plan-start _ _ _ _ _ _ (c .before .before .before .before .before .before .before .before .before .pre) (c .before .before .before .write .ensures)
+loop-holds c =
+    plan-start _ _ _ _ _ _ (c .before .before .before .before .before .before .before .before .before .pre) (c .before .before .before
+    .write .ensures)
 
 rule-at-requires : tie.Need-rule-at-requires Inv-loop μ-loop
 rule-at-requires c κs = plan-rule _ _ _ _ _ _ _ _ (c .before .loop .inv) (c .before .before .word .ensures .0) (c .loop-test .taken)
 
 sequence-requires : tie.Need-sequence-requires Inv-loop μ-loop
-sequence-requires c κs = (plan-given _ _ _ _ _ _ _ _ _ (c .before .before .before .loop .inv) (c .before .before .before .before .word .ensures .0) (c .before .before .loop-test .taken) (c .before .rule-at .ensures), plan-fits _ _ _ _ _ _ _ (c .before .before .before .loop .inv))
+sequence-requires c κs =
+    (plan-given _ _ _ _ _ _ _ _ _ (c .before .before .before .loop .inv) (c .before .before .before .before .word .ensures .0) (c .before
+    .before .loop-test .taken) (c .before .rule-at .ensures), plan-fits _ _ _ _ _ _ _ (c .before .before .before .loop .inv))
 
 add-r : tie.Need-add-r Inv-loop μ-loop
 add-r c = search needs
@@ -40,13 +44,19 @@ loop-less : tie.Need-loop-less Inv-loop μ-loop
 loop-less c = search needs
 
 loop-again : tie.Need-loop-again Inv-loop μ-loop
-loop-again c = plan-turn _ _ _ _ _ _ _ _ _ (c .before .before .before .before .before .before .loop .inv) (c .before .before .before .before .before .before .before .word .ensures .0) (c .before .before .before .before .before .loop-test .taken) (c .before .before .sequence .ensures)
+loop-again c =
+    plan-turn _ _ _ _ _ _ _ _ _ (c .before .before .before .before .before .before .loop .inv) (c .before .before .before .before .before
+    .before .before .word .ensures .0) (c .before .before .before .before .before .loop-test .taken) (c .before .before .sequence .ensures)
 
 same-length : tie.Need-same-length Inv-loop μ-loop
-same-length c = plan-kept _ _ _ _ _ _ _ _ (c .before .before .before .before .before .before .before .before .before .before .before .pre) (c .before .before .before .before .before .write .ensures) (c .before .loop .inv)
+same-length c =
+    plan-kept _ _ _ _ _ _ _ _ (c .before .before .before .before .before .before .before .before .before .before .before .pre) (c .before
+    .before .before .before .before .write .ensures) (c .before .loop .inv)
 
 returns : tie.Need-returns Inv-loop μ-loop
-returns c = plan-finish _ _ _ _ _ _ _ _ _ (c .before .loop .inv) (c .before .before .word .ensures .0) (c .loop-test .left) (c .before .before .before .before .before .write .ensures)
+returns c =
+    plan-finish _ _ _ _ _ _ _ _ _ (c .before .loop .inv) (c .before .before .word .ensures .0) (c .loop-test .left) (c .before .before
+    .before .before .before .write .ensures)
 
 pub write-plan-spec : {M : Type 1} → statement M
 write-plan-spec =

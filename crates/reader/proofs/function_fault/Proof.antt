@@ -35,7 +35,9 @@ enum-told-4 c = search needs
 
 returns-2 : tie.Need-returns-2
 unfolding functionFrom
-returns-2 c = passes _ _ _ _ (c .before .before .before .before .before .before .before .present .ensures) (c .before .before .before .before .before .enum-told .given .1)
+returns-2 c =
+    passes _ _ _ _ (c .before .before .before .before .before .before .before .present .ensures) (c .before .before .before .before .before
+    .enum-told .given .1)
     (search (stops, unless-of, member-of))
 
 member-requires-2 : tie.Need-member-requires-2
@@ -52,7 +54,9 @@ enum-told-6 c = search needs
 
 returns-3 : tie.Need-returns-3
 unfolding functionFrom
-returns-3 c = passes _ _ _ _ (c .before .before .before .before .before .before .before .before .before .before .before .present .ensures) (c .before .before .before .before .before .before .before .before .before .enum-told .given .1)
+returns-3 c =
+    passes _ _ _ _ (c .before .before .before .before .before .before .before .before .before .before .before .present .ensures) (c .before
+    .before .before .before .before .before .before .before .before .enum-told .given .1)
     (passes _ _ _ _ (unless-of _ _ _ _ (c .before .before .before .before .before .before .unless .ensures) (member-of _ _ _ _ (c .before .before .before .before .before .before .before .member .ensures) (c .before .before .before .before .before .before .before .before .word .ensures .0))) (c .before .before .before .before .enum-told3 .given .1)
     (stops _ _ _ _ (unless-of _ _ _ _ (c .before .before .unless2 .ensures) (member-of _ _ _ _ (c .before .before .before .member2 .ensures) (c .before .before .before .before .before .before .before .before .word .ensures .0))) (c .enum-told6 .given .1)))
 
@@ -76,7 +80,10 @@ enum-told-8 c = search needs
 
 returns-4 : tie.Need-returns-4
 unfolding functionFrom
-returns-4 c = passes _ _ _ _ (c .before .before .before .before .before .before .before .before .before .before .before .before .before .before .before .present .ensures) (c .before .before .before .before .before .before .before .before .before .before .before .before .before .enum-told .given .1)
+returns-4 c =
+    passes _ _ _ _ (c .before .before .before .before .before .before .before .before .before .before .before .before .before .before
+    .before .present .ensures) (c .before .before .before .before .before .before .before .before .before .before .before .before .before
+    .enum-told .given .1)
     (passes _ _ _ _ (unless-of _ _ _ _ (c .before .before .before .before .before .before .before .before .before .before .unless .ensures) (member-of _ _ _ _ (c .before .before .before .before .before .before .before .before .before .before .before .member .ensures) (c .before .before .before .before .before .before .before .before .before .before .before .before .word .ensures .0))) (c .before .before .before .before .before .before .before .before .enum-told3 .given .1)
     (passes _ _ _ _ (unless-of _ _ _ _ (c .before .before .before .before .before .before .unless2 .ensures) (member-of _ _ _ _ (c .before .before .before .before .before .before .before .member2 .ensures) (c .before .before .before .before .before .before .before .before .before .before .before .before .word .ensures .0))) (c .before .before .before .before .enum-told5 .given .1)
     (search (stops, ranged-of, leb-of))))
@@ -86,7 +93,10 @@ arguments-fault-requires c κs = search needs
 
 returns-5 : tie.Need-returns-5
 unfolding functionFrom
-returns-5 c = passes _ _ _ _ (c .before .before .before .before .before .before .before .before .before .before .before .before .before .before .before .before .present .ensures) (c .before .before .before .before .before .before .before .before .before .before .before .before .before .before .enum-told .given .1)
+returns-5 c =
+    passes _ _ _ _ (c .before .before .before .before .before .before .before .before .before .before .before .before .before .before
+    .before .before .present .ensures) (c .before .before .before .before .before .before .before .before .before .before .before .before
+    .before .before .enum-told .given .1)
     (passes _ _ _ _ (unless-of _ _ _ _ (c .before .before .before .before .before .before .before .before .before .before .before .unless .ensures) (member-of _ _ _ _ (c .before .before .before .before .before .before .before .before .before .before .before .before .member .ensures) (c .before .before .before .before .before .before .before .before .before .before .before .before .before .word .ensures .0))) (c .before .before .before .before .before .before .before .before .before .enum-told3 .given .1)
     (passes _ _ _ _ (unless-of _ _ _ _ (c .before .before .before .before .before .before .before .unless2 .ensures) (member-of _ _ _ _ (c .before .before .before .before .before .before .before .before .member2 .ensures) (c .before .before .before .before .before .before .before .before .before .before .before .before .before .word .ensures .0))) (c .before .before .before .before .before .enum-told5 .given .1)
     (passes _ _ _ _ (ranged-of _ _ _ _ _ (c .before .before .before .ranged .ensures) (leb-of _ _ _ (c .before .before .before .before .word2 .ensures .0))) (c .before .enum-told7 .given .1) (c .arguments-fault .ensures))))

@@ -10,7 +10,8 @@ use Rattle.reader.proofs.functions_fault.Statement.{statement}
 use Rattle.reader.proofs.functions_fault.Tie as tie
 
 abbrev Inv-loop : tie.InvT-loop
-Inv-loop words p occurrences defining count f₀ undefined₀ k₀ f undefined k = (k ≤ count) × AtFunction words p occurrences defining f undefined k
+Inv-loop words p occurrences defining count f₀ undefined₀ k₀ f undefined k =
+    (k ≤ count) × AtFunction words p occurrences defining f undefined k
 
 abbrev μ-loop : tie.MeasureT-loop
 μ-loop words p occurrences defining count f₀ undefined₀ k₀ f undefined k = count - k
@@ -47,7 +48,9 @@ word-requires : tie.Need-word-requires Inv-loop μ-loop
 word-requires c κs = search needs
 
 without-requires : tie.Need-without-requires Inv-loop μ-loop
-without-requires c κs = target-fits _ _ _ _ _ _ (omega arith) (c .before .before .before .function-fault .ensures) (c .before .enum-told .given .1) (c .word .ensures .0)
+without-requires c κs =
+    target-fits _ _ _ _ _ _ (omega arith) (c .before .before .before .function-fault .ensures) (c .before .enum-told .given .1) (c .word
+    .ensures .0)
 
 next-function-requires : tie.Need-next-function-requires Inv-loop μ-loop
 next-function-requires c κs = omega arith

@@ -87,11 +87,17 @@ add-p : tie.Need-add-p Inv-loop μ-loop
 add-p c = search needs
 
 loop-holds : tie.Need-loop-holds Inv-loop μ-loop
-loop-holds c = (omega arith, start _ _ _ (c .before .before .before .before .before .before .before .word .ensures .0) (few-symbols _ _ _ (c .before .before .before .before .before .before .before .before .before .before .header .ensures) (c .before .before .before .before .before .before .before .before .enum-told .given .1) (c .before .before .before .before .before .before .before .word .ensures .0)) refl)
+loop-holds c =
+    (omega arith, start _ _ _ (c .before .before .before .before .before .before .before .word .ensures .0) (few-symbols _ _ _ (c .before
+    .before .before .before .before .before .before .before .before .before .header .ensures) (c .before .before .before .before .before
+    .before .before .before .enum-told .given .1) (c .before .before .before .before .before .before .before .word .ensures .0)) refl)
 
 rule-fault-requires : tie.Need-rule-fault-requires Inv-loop μ-loop
 rule-fault-requires c κs =
-    let few : (c .before .before .word2 .result) ≤ 64 = few-rules _ _ _ (c .before .before .before .before .before .before .before .before .before .before .before .before .header .ensures) (c .before .before .before .before .before .before .before .before .before .before .enum-told .given .1) (c .before .before .word2 .ensures .0) in
+    let few : (c .before .before .word2 .result) ≤ 64 =
+        few-rules _ _ _ (c .before .before .before .before .before .before .before .before .before .before .before .before .header
+        .ensures) (c .before .before .before .before .before .before .before .before .before .before .enum-told .given .1) (c .before
+        .before .word2 .ensures .0) in
     (omega arith, symbols-formed _ _ _ (c .before .before .before .before .before .before .before .before .symbols-fault .ensures) (c .before .before .before .before .before .before .before .before .before .word .ensures .0) (c .before .before .before .before .before .before .enum-told3 .given .1))
 
 enum-told-7 : tie.Need-enum-told-7 Inv-loop μ-loop
@@ -111,7 +117,10 @@ returns-4 c =
 
 cast-offsets : tie.Need-cast-offsets Inv-loop μ-loop
 cast-offsets c =
-    let few : (c .before .before .before .before .before .word2 .result) ≤ 64 = few-rules _ _ _ (c .before .before .before .before .before .before .before .before .before .before .before .before .before .before .before .header .ensures) (c .before .before .before .before .before .before .before .before .before .before .before .before .before .enum-told .given .1) (c .before .before .before .before .before .word2 .ensures .0) in
+    let few : (c .before .before .before .before .before .word2 .result) ≤ 64 =
+        few-rules _ _ _ (c .before .before .before .before .before .before .before .before .before .before .before .before .before .before
+        .before .header .ensures) (c .before .before .before .before .before .before .before .before .before .before .before .before
+        .before .enum-told .given .1) (c .before .before .before .before .before .word2 .ensures .0) in
     omega arith
 
 mul-offsets : tie.Need-mul-offsets Inv-loop μ-loop
@@ -119,7 +128,10 @@ mul-offsets c = search needs
 
 array-write-offsets : tie.Need-array-write-offsets Inv-loop μ-loop
 array-write-offsets c =
-    let few : (c .before .before .before .before .before .word2 .result) ≤ 64 = few-rules _ _ _ (c .before .before .before .before .before .before .before .before .before .before .before .before .before .before .before .header .ensures) (c .before .before .before .before .before .before .before .before .before .before .before .before .before .enum-told .given .1) (c .before .before .before .before .before .word2 .ensures .0) in
+    let few : (c .before .before .before .before .before .word2 .result) ≤ 64 =
+        few-rules _ _ _ (c .before .before .before .before .before .before .before .before .before .before .before .before .before .before
+        .before .header .ensures) (c .before .before .before .before .before .before .before .before .before .before .before .before
+        .before .enum-told .given .1) (c .before .before .before .before .before .word2 .ensures .0) in
     omega arith
 
 add-r : tie.Need-add-r Inv-loop μ-loop
@@ -130,7 +142,10 @@ loop-less c = search needs
 
 loop-again : tie.Need-loop-again Inv-loop μ-loop
 loop-again c =
-    let few : (c .before .before .before .before .before .word2 .result) ≤ 64 = few-rules _ _ _ (c .before .before .before .before .before .before .before .before .before .before .before .before .before .before .before .header .ensures) (c .before .before .before .before .before .before .before .before .before .before .before .before .before .enum-told .given .1) (c .before .before .before .before .before .word2 .ensures .0) in
+    let few : (c .before .before .before .before .before .word2 .result) ≤ 64 =
+        few-rules _ _ _ (c .before .before .before .before .before .before .before .before .before .before .before .before .before .before
+        .before .header .ensures) (c .before .before .before .before .before .before .before .before .before .before .before .before
+        .before .enum-told .given .1) (c .before .before .before .before .before .word2 .ensures .0) in
     (omega arith, turn _ _ _ _ _ (c .before .before .before .before .loop .inv .1) _ _ _ (omega arith) (c .before .before .rule-fault .ensures .0) (c .enum-told7 .given .1) (c .before .before .rule-fault .ensures .1))
 
 rule-before-requires : tie.Need-rule-before-requires Inv-loop μ-loop
@@ -173,7 +188,15 @@ returns-6 c =
 
 returns-7 : tie.Need-returns-7 Inv-loop μ-loop
 returns-7 c =
-    let good : Good ≡ readTable (c .before .before .before .before .before .before .before .before .before .before .before .before .before .before .before .before .before .before .before .before .args .words .now) = opening _ _ _ _ _ _ (c .before .before .before .before .before .before .before .before .before .before .before .before .before .before .before .before .before .before .header .ensures) (c .before .before .before .before .before .before .before .before .before .before .before .before .before .before .before .before .enum-told .given .1) (c .before .before .before .before .before .before .before .before .before .before .before .before .before .before .symbols-fault .ensures) (c .before .before .before .before .before .before .before .before .before .before .before .before .before .before .before .word .ensures .0) (c .before .before .before .before .before .before .before .before .before .before .before .before .enum-told3 .given .1) (c .before .before .before .before .before .before .before .before .before .before .before .start-class .ensures) (c .before .before .before .before .before .before .before .before .before .enum-told5 .given .1)
+    let good : Good ≡ readTable (c .before .before .before .before .before .before .before .before .before .before .before .before .before .before .before .before .before .before .before .before .args .words .now) =
+        opening _ _ _ _ _ _ (c .before .before .before .before .before .before .before .before .before .before .before .before .before
+        .before .before .before .before .before .header .ensures) (c .before .before .before .before .before .before .before .before
+        .before .before .before .before .before .before .before .before .enum-told .given .1) (c .before .before .before .before .before
+        .before .before .before .before .before .before .before .before .before .symbols-fault .ensures) (c .before .before .before .before
+        .before .before .before .before .before .before .before .before .before .before .before .word .ensures .0) (c .before .before
+        .before .before .before .before .before .before .before .before .before .before .enum-told3 .given .1) (c .before .before .before
+        .before .before .before .before .before .before .before .before .start-class .ensures) (c .before .before .before .before .before
+        .before .before .before .before .enum-told5 .given .1)
     (passes _ _ _ _ (rules-end _ _ _ _ _ (c .before .before .before .before .before .before .before .loop .inv .1) _ (c .before .before .before .before .before .before .before .before .word2 .ensures .0) (c .before .before .before .before .before .before .before .loop .inv .0) (c .before .before .before .before .before .before .loop-test .left)) refl
     (passes _ _ _ _ (before-end _ _ _ _ _ (c .before .before .before .before .before .before .before .loop .inv .1) _ (c .before .before .before .before .before .before .before .before .word2 .ensures .0) (c .before .before .before .before .before .before .before .loop .inv .0) (c .before .before .before .before .before .before .loop-test .left) _ (c .before .before .before .before .before .rule-before .ensures)) (c .before .before .before .enum-told9 .given .1) (sym (c .enum-told11 .given .1) ∙ over-end _ _ _ _ _ (c .before .before .before .before .before .before .before .loop .inv .1) _ (c .before .before .before .before .before .before .before .before .word2 .ensures .0) (c .before .before .before .before .before .before .before .loop .inv .0) (c .before .before .before .before .before .before .loop-test .left) _ (c .before .before .left-over .ensures)))) in
     (good, offsets-end _ _ _ _ _ (c .before .before .before .before .before .before .before .loop .inv .1) _ (c .before .before .before .before .before .before .before .before .word2 .ensures .0) (c .before .before .before .before .before .before .before .loop .inv .0) (c .before .before .before .before .before .before .loop-test .left) good)

@@ -47,7 +47,9 @@ enum-told-4 c = search needs
 
 returns-2 : tie.Need-returns-2
 unfolding symbolFault
-returns-2 c = passes _ _ _ _ (ranged-of _ _ _ _ _ (c .before .before .before .before .before .ranged .ensures) (leb-of _ _ _ (c .before .before .before .before .before .before .kind .ensures .0))) (c .before .before .before .enum-told .given .1)
+returns-2 c =
+    passes _ _ _ _ (ranged-of _ _ _ _ _ (c .before .before .before .before .before .ranged .ensures) (leb-of _ _ _ (c .before .before
+    .before .before .before .before .kind .ensures .0))) (c .before .before .before .enum-told .given .1)
     (search (stops, ranged-of, leb-of))
 
 add-ranged-2 : tie.Need-add-ranged-2
@@ -57,7 +59,9 @@ inherited-set-requires : tie.Need-inherited-set-requires
 inherited-set-requires c κs = search needs
 
 single-requires : tie.Need-single-requires
-single-requires c κs = let few : (c .before .before .before .before .before .before .before .before .attributes .result) ≤ 8 = ranged-le _ _ _ _ _ (c .before .before .before .ranged2 .ensures) (c .before .enum-told3 .given .1) in omega arith
+single-requires c κs =
+    let few : (c .before .before .before .before .before .before .before .before .attributes .result) ≤ 8 = ranged-le _ _ _ _ _ (c .before
+    .before .before .ranged2 .ensures) (c .before .enum-told3 .given .1) in omega arith
 
 ranged-requires-3 : tie.Need-ranged-requires-3
 ranged-requires-3 c κs = search needs
@@ -70,7 +74,10 @@ enum-told-6 c = search needs
 
 returns-3 : tie.Need-returns-3
 unfolding symbolFault
-returns-3 c = passes _ _ _ _ (ranged-of _ _ _ _ _ (c .before .before .before .before .before .before .before .before .before .before .ranged .ensures) (leb-of _ _ _ (c .before .before .before .before .before .before .before .before .before .before .before .kind .ensures .0))) (c .before .before .before .before .before .before .before .before .enum-told .given .1)
+returns-3 c =
+    passes _ _ _ _ (ranged-of _ _ _ _ _ (c .before .before .before .before .before .before .before .before .before .before .ranged
+    .ensures) (leb-of _ _ _ (c .before .before .before .before .before .before .before .before .before .before .before .kind .ensures .0)))
+    (c .before .before .before .before .before .before .before .before .enum-told .given .1)
     (passes _ _ _ _ (ranged-of _ _ _ _ _ (c .before .before .before .before .before .before .before .ranged2 .ensures) (leb-of _ _ _ (c .before .before .before .before .before .before .before .before .before .before .before .before .attributes .ensures .0))) (c .before .before .before .before .before .enum-told3 .given .1)
     (stops _ _ _ _ (ranged-of _ _ _ _ _ (c .before .before .ranged3 .ensures) (mask-of _ _ _ _ _ (c .before .before .before .before .inherited-set .ensures) (c .before .before .before .single .ensures) (c .before .before .before .before .before .before .before .before .before .before .before .before .attributes .ensures .0))) (c .enum-told6 .given .1)))
 
@@ -85,7 +92,10 @@ unless-requires c κs = search needs
 
 returns-4 : tie.Need-returns-4
 unfolding symbolFault
-returns-4 c = passes _ _ _ _ (ranged-of _ _ _ _ _ (c .before .before .before .before .before .before .before .before .before .before .before .before .ranged .ensures) (leb-of _ _ _ (c .before .before .before .before .before .before .before .before .before .before .before .before .before .kind .ensures .0))) (c .before .before .before .before .before .before .before .before .before .before .enum-told .given .1)
+returns-4 c =
+    passes _ _ _ _ (ranged-of _ _ _ _ _ (c .before .before .before .before .before .before .before .before .before .before .before .before
+    .ranged .ensures) (leb-of _ _ _ (c .before .before .before .before .before .before .before .before .before .before .before .before
+    .before .kind .ensures .0))) (c .before .before .before .before .before .before .before .before .before .before .enum-told .given .1)
     (passes _ _ _ _ (ranged-of _ _ _ _ _ (c .before .before .before .before .before .before .before .before .before .ranged2 .ensures) (leb-of _ _ _ (c .before .before .before .before .before .before .before .before .before .before .before .before .before .before .attributes .ensures .0))) (c .before .before .before .before .before .before .before .enum-told3 .given .1)
     (passes _ _ _ _ (ranged-of _ _ _ _ _ (c .before .before .before .before .ranged3 .ensures) (mask-of _ _ _ _ _ (c .before .before .before .before .before .before .inherited-set .ensures) (c .before .before .before .before .before .single .ensures) (c .before .before .before .before .before .before .before .before .before .before .before .before .before .before .attributes .ensures .0))) (c .before .before .enum-told5 .given .1) (unless-of _ _ _ _ (c .unless .ensures) (c .before .symbol-class .ensures))))
 

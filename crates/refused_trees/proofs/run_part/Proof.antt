@@ -16,7 +16,9 @@ slice-aggregate-run-3 c = search needs
 
 slice-aggregate-run-4 : tie.Need-slice-aggregate-run-4
 slice-aggregate-run-4 c =
-    let e = length-take (c .before .before .before .before .before .args .words) (c .before .before .before .before .before .args .tree .now) in
+    let e =
+        length-take (c .before .before .before .before .before .args .words) (c .before .before .before .before .before .args .tree .now)
+        in
     let h = c .before .before .before .before .before .pre in
     omega (arith, e, h .0)
 
@@ -25,7 +27,9 @@ slice-relend-prefix-run c = search needs
 
 slice-aggregate-run-5 : tie.Need-slice-aggregate-run-5
 slice-aggregate-run-5 c =
-    let e = length-take (c .before .before .before .before .before .before .args .room) (c .before .before .before .before .before .before .args .values .now) in
+    let e =
+        length-take (c .before .before .before .before .before .before .args .room) (c .before .before .before .before .before .before
+        .args .values .now) in
     let h = c .before .before .before .before .before .before .pre in
     omega (arith, e, h .1)
 

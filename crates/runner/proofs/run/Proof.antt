@@ -21,13 +21,20 @@ same-length-2 : tie.Need-same-length-2
 same-length-2 c = search needs
 
 returns : tie.Need-returns
-returns c = run-refused _ _ _ _ _ _ _ _ _ (c .before .before .before .before .before .before .before .plan .ensures .0) (c .before .before .before .before .before .before .before .plan .ensures .1 .0) (c .before .before .before .before .before .before .before .plan .ensures .1 .1) _ (c .before .planned .given .1)
+returns c =
+    run-refused _ _ _ _ _ _ _ _ _ (c .before .before .before .before .before .before .before .plan .ensures .0) (c .before .before .before
+    .before .before .before .before .plan .ensures .1 .0) (c .before .before .before .before .before .before .before .plan .ensures .1 .1)
+    _ (c .before .planned .given .1)
 
 enum-told : tie.Need-enum-told
 enum-told c = search needs
 
 run-planned-requires : tie.Need-run-planned-requires
-run-planned-requires c κs = run-planned _ (c .before .before .before .before .before .before .before .before .before .before .before .before .before .before .before .args .rows .now) (c .before .before .before .before .before .before .before .before .before .before .before .before .before .before .before .args .plan .now) _ _ _ (c .before .before .before .before .before .before .before .before .plan .ensures .0) (c .before .before .before .before .before .before .before .before .plan .ensures .1 .1) (c .before .before .enum-told .given .1)
+run-planned-requires c κs =
+    run-planned _ (c .before .before .before .before .before .before .before .before .before .before .before .before .before .before
+    .before .args .rows .now) (c .before .before .before .before .before .before .before .before .before .before .before .before .before
+    .before .before .args .plan .now) _ _ _ (c .before .before .before .before .before .before .before .before .plan .ensures .0) (c
+    .before .before .before .before .before .before .before .before .plan .ensures .1 .1) (c .before .before .enum-told .given .1)
 
 same-length-3 : tie.Need-same-length-3
 same-length-3 c = search needs
@@ -39,7 +46,11 @@ same-length-5 : tie.Need-same-length-5
 same-length-5 c = search needs
 
 returns-2 : tie.Need-returns-2
-returns-2 c = run-ran _ _ _ _ _ _ _ _ _ (c .before .before .before .before .before .before .before .before .before .before .plan .ensures .0) (c .before .before .before .before .before .before .before .before .before .before .plan .ensures .1 .0) (c .before .before .before .before .before .before .before .before .before .before .plan .ensures .1 .1) _ _ _ (c .before .before .before .before .enum-told .given .1) (c .before .run-planned .ensures .0) (c .before .run-planned .ensures .1)
+returns-2 c =
+    run-ran _ _ _ _ _ _ _ _ _ (c .before .before .before .before .before .before .before .before .before .before .plan .ensures .0) (c
+    .before .before .before .before .before .before .before .before .before .before .plan .ensures .1 .0) (c .before .before .before
+    .before .before .before .before .before .before .before .plan .ensures .1 .1) _ _ _ (c .before .before .before .before .enum-told
+    .given .1) (c .before .run-planned .ensures .0) (c .before .run-planned .ensures .1)
 
 pub run-spec : {M : Type 1} → statement M
 run-spec =

@@ -26,13 +26,21 @@ enum-told : tie.Need-enum-told
 enum-told c = search needs
 
 execute-requires : tie.Need-execute-requires
-execute-requires c κs = ((c .before .before .before .before .before .before .before .before .before .before .before .before .pre .good), (starts-good _ _ (c .before .before .before .before .before .before .before .before .before .before .before .before .pre .good) (c .before .before .before .before .before .before .before .before .read .ensures .1), ((c .before .before .before .before .before .before .before .before .before .before .before .before .pre .soundPlan), ((c .before .before .before .before .before .before .before .before .before .before .before .before .pre .long), sym (c .before .before .before .before .before .check .ensures) ∙ (c .before .before .before .enum-told .given .1)))))
+execute-requires c κs =
+    ((c .before .before .before .before .before .before .before .before .before .before .before .before .pre .good), (starts-good _ _ (c
+    .before .before .before .before .before .before .before .before .before .before .before .before .pre .good) (c .before .before .before
+    .before .before .before .before .before .read .ensures .1), ((c .before .before .before .before .before .before .before .before .before
+    .before .before .before .pre .soundPlan), ((c .before .before .before .before .before .before .before .before .before .before .before
+    .before .pre .long), sym (c .before .before .before .before .before .check .ensures) ∙ (c .before .before .before .enum-told .given
+    .1)))))
 
 same-length : tie.Need-same-length
 same-length c = search needs
 
 returns-2 : tie.Need-returns-2
-returns-2 c = tree-ran _ _ _ _ _ _ _ _ (c .before .before .before .before .before .before .before .check .ensures) (c .before .before .before .before .before .enum-told .given .1) (c .before .execute .ensures .0) (c .before .execute .ensures .1)
+returns-2 c =
+    tree-ran _ _ _ _ _ _ _ _ (c .before .before .before .before .before .before .before .check .ensures) (c .before .before .before .before
+    .before .enum-told .given .1) (c .before .execute .ensures .0) (c .before .execute .ensures .1)
 
 pub run-planned-spec : {M : Type 1} → statement M
 run-planned-spec =

@@ -51,7 +51,10 @@ loop-again : tie.Need-loop-again Inv-loop μ-loop
 loop-again c = search (calling-turn, needs)
 
 returns : tie.Need-returns Inv-loop μ-loop
-returns c = calling-finish (c .before .before .before .before .before .args .words .now) (c .before .before .before .before .before .args .sets .now) (c .before .before .before .before .before .args .p) _ (c .before .loop .visits) (c .before .loop .i) (c .before .loop .inv) (omega arith)
+returns c =
+    calling-finish (c .before .before .before .before .before .args .words .now) (c .before .before .before .before .before .args .sets
+    .now) (c .before .before .before .before .before .args .p) _ (c .before .loop .visits) (c .before .loop .i) (c .before .loop .inv)
+    (omega arith)
 
 pub all-visits-spec : {M : Type 1} → statement M
 all-visits-spec =

@@ -45,7 +45,9 @@ loop-less : tie.Need-loop-less Inv-loop μ-loop
 loop-less c = blocking-less _ _ _ _ _ (c .before .before .before .before .first .ensures) (c .before .rest .ensures) (c .minus .ensures)
 
 loop-again : tie.Need-loop-again Inv-loop μ-loop
-loop-again c = blocking-turn _ _ _ _ _ _ _ _ _ (c .before .before .before .before .before .before .loop .inv) (c .before .before .before .before .first .ensures) (c .before .rest .ensures) (c .minus .ensures) (c .before .before .union .ensures)
+loop-again c =
+    blocking-turn _ _ _ _ _ _ _ _ _ (c .before .before .before .before .before .before .loop .inv) (c .before .before .before .before
+    .first .ensures) (c .before .rest .ensures) (c .minus .ensures) (c .before .before .union .ensures)
 
 returns : tie.Need-returns Inv-loop μ-loop
 returns c = search blocking-finish

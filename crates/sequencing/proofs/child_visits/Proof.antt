@@ -13,7 +13,9 @@ visits-of-requires : tie.Need-visits-of-requires
 visits-of-requires c κs = search needs
 
 below-requires : tie.Need-below-requires
-below-requires c κs = omega (arith, (c .before .before .before .before .before .pre .1) (c .before .before .before .before .before .args .x), (c .visits-of .ensures .0))
+below-requires c κs =
+    omega (arith, (c .before .before .before .before .before .pre .1) (c .before .before .before .before .before .args .x), (c .visits-of
+    .ensures .0))
 
 returns : tie.Need-returns
 returns c = search child-yes

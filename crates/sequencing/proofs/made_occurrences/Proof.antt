@@ -48,7 +48,9 @@ loop-again : tie.Need-loop-again Inv-loop μ-loop
 loop-again c = search (making-turn, needs)
 
 returns : tie.Need-returns Inv-loop μ-loop
-returns c = making-finish (c .before .before .before .before .args .words .now) (c .before .before .before .before .args .p) _ (c .before .loop .made) (c .before .loop .i) (c .before .loop .inv) (omega arith)
+returns c =
+    making-finish (c .before .before .before .before .args .words .now) (c .before .before .before .before .args .p) _ (c .before .loop
+    .made) (c .before .loop .i) (c .before .loop .inv) (omega arith)
 
 pub made-occurrences-spec : {M : Type 1} → statement M
 made-occurrences-spec =

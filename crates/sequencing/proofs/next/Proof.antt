@@ -25,8 +25,8 @@ compute-requires c κs = search needs
 returns : tie.Need-returns
 returns c = search next-compute
 
-ready-visits-requires : tie.Need-ready-visits-requires
-ready-visits-requires c κs = (search place-small, search children-left)
+ready-visit-requires : tie.Need-ready-visit-requires
+ready-visit-requires c κs = (search place-small, search children-left)
 
 first-requires-2 : tie.Need-first-requires-2
 first-requires-2 c κs = search needs
@@ -56,7 +56,7 @@ next-spec =
     first-requires
     compute-requires
     returns
-    ready-visits-requires
+    ready-visit-requires
     first-requires-2
     visit-requires
     returns-2

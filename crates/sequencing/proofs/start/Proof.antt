@@ -18,7 +18,9 @@ visits-of-requires : tie.Need-visits-of-requires
 visits-of-requires c κs = search needs
 
 below-requires : tie.Need-below-requires
-below-requires c κs = omega (arith, (c .before .before .before .before .before .before .pre .1 .1) (c .before .before .before .symbol-of .result), (c .visits-of .ensures .0))
+below-requires c κs =
+    omega (arith, (c .before .before .before .before .before .before .pre .1 .1) (c .before .before .before .symbol-of .result), (c
+    .visits-of .ensures .0))
 
 made-occurrences-requires : tie.Need-made-occurrences-requires
 made-occurrences-requires c κs = search needs

@@ -140,7 +140,9 @@ digits-returns-3 : (t : ℕ) → digits-lts.Need-returns-3 (
   digits-below t,
   digits.Post,
 ) (digits-at t) digits.Post
-digits-returns-3 t c = line.more-digits _ _ (omega arith) (omega arith) (c .before .before .before .before .before .before .digits .ensures) (c .before .before .put2 .ensures)
+digits-returns-3 t c =
+    line.more-digits _ _ (omega arith) (omega arith) (c .before .before .before .before .before .before .digits .ensures) (c .before
+    .before .put2 .ensures)
 
 pub +digits-spec : {M : Type 1} → statement M
 +digits-spec = close μ-digits λ t. digits-lts.spec (

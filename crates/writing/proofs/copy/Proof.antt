@@ -40,7 +40,9 @@ loop-less c = search needs
 
 -- src/lib.rt:33:5
 loop-again : tie.Need-loop-again Inv-loop μ-loop
-loop-again c = line.copy-turn _ _ (c .before .before .before .before .before .loop-test .taken) (c .before .before .before .before .before .before .loop .inv) (c .before .before .put .ensures)
+loop-again c =
+    line.copy-turn _ _ (c .before .before .before .before .before .loop-test .taken) (c .before .before .before .before .before .before
+    .loop .inv) (c .before .before .put .ensures)
 
 -- src/lib.rt:29:1
 same-length : tie.Need-same-length Inv-loop μ-loop

@@ -46,7 +46,12 @@ same-length c = search needs
 
 -- src/lib.rt:74:1
 returns : tie.Need-returns
-returns c = plans.first-line-typed _ _ _ (c .before .before .before .before .before .before .before .before .before .before .before .before .word2 .ensures .0) (c .before .before .before .before .before .before .before .word3 .ensures .0) (c .before .before .before .before .before .before .before .before .before .before .before .before .before .before .before .before .copy .ensures) (c .before .before .before .before .before .before .before .before .before .before .before .number .ensures) (c .before .before .before .before .before .before .number2 .ensures) (c .before .before .put .ensures)
+returns c =
+    plans.first-line-typed _ _ _ (c .before .before .before .before .before .before .before .before .before .before .before .before .word2
+    .ensures .0) (c .before .before .before .before .before .before .before .word3 .ensures .0) (c .before .before .before .before .before
+    .before .before .before .before .before .before .before .before .before .before .before .copy .ensures) (c .before .before .before
+    .before .before .before .before .before .before .before .before .number .ensures) (c .before .before .before .before .before .before
+    .number2 .ensures) (c .before .before .put .ensures)
 
 pub first-line-spec : {M : Type 1} → statement M
 first-line-spec =

@@ -29,7 +29,8 @@ same-length c = search needs
 
 -- src/lib.rt:193:1
 returns : tie.Need-returns
-returns c = table.looked-text _ _ _ _ _ (c .before .before .before .before .before .looked-at .ensures) (c .before .before .list-bytes .ensures)
+returns c =
+    table.looked-text _ _ _ _ _ (c .before .before .before .before .before .looked-at .ensures) (c .before .before .list-bytes .ensures)
 
 pub list-spec : {M : Type 1} → statement M
 list-spec =

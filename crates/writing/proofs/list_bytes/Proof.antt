@@ -54,7 +54,9 @@ same-length-2 c = search needs
 
 -- src/lib.rt:170:1
 returns-2 : tie.Need-returns-2
-returns-2 c = table.even-bytes _ _ _ _ _ _ _ (c .before .before .before .before .before .before .before .before .if1 .left) (c .before .before .before .before .before .before .little-endian .ensures) refl (c .before .before .list-table .ensures)
+returns-2 c =
+    table.even-bytes _ _ _ _ _ _ _ (c .before .before .before .before .before .before .before .before .if1 .left) (c .before .before
+    .before .before .before .before .little-endian .ensures) refl (c .before .before .list-table .ensures)
 
 pub list-bytes-spec : {M : Type 1} → statement M
 list-bytes-spec =

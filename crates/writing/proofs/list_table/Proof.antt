@@ -40,7 +40,10 @@ same-length c = search needs
 
 -- src/lib.rt:154:9
 returns : tie.Need-returns
-returns c = table.list-refused _ _ _ (replicate {A = ℕ} 4096 0) (replicate {A = ℕ} 7424 0) _ _ _ (length-replicate {A = ℕ} 4096 0) (length-replicate {A = ℕ} 7424 0) (c .before .before .before .before .before .before .before .before .before .plan2 .ensures .0) (c .before .before .before .before .before .planned .given .1) (c .before .before .refusal-line .ensures)
+returns c =
+    table.list-refused _ _ _ (replicate {A = ℕ} 4096 0) (replicate {A = ℕ} 7424 0) _ _ _ (length-replicate {A = ℕ} 4096 0)
+    (length-replicate {A = ℕ} 7424 0) (c .before .before .before .before .before .before .before .before .before .plan2 .ensures .0) (c
+    .before .before .before .before .before .planned .given .1) (c .before .before .refusal-line .ensures)
 
 enum-told : tie.Need-enum-told
 enum-told c = search needs
@@ -59,7 +62,11 @@ same-length-2 c = search needs
 
 -- src/lib.rt:147:1
 returns-2 : tie.Need-returns-2
-returns-2 c = table.list-accepted _ _ _ (replicate {A = ℕ} 4096 0) (replicate {A = ℕ} 7424 0) _ _ _ _ (length-replicate {A = ℕ} 4096 0) (length-replicate {A = ℕ} 7424 0) (c .before .before .before .before .before .before .before .before .before .plan2 .ensures .0) (c .before .before .before .before .before .before .before .before .before .plan2 .ensures .1 .1) (c .before .before .before .before .before .enum-told .given .1) (c .before .before .plan-lines .ensures)
+returns-2 c =
+    table.list-accepted _ _ _ (replicate {A = ℕ} 4096 0) (replicate {A = ℕ} 7424 0) _ _ _ _ (length-replicate {A = ℕ} 4096 0)
+    (length-replicate {A = ℕ} 7424 0) (c .before .before .before .before .before .before .before .before .before .plan2 .ensures .0) (c
+    .before .before .before .before .before .before .before .before .before .plan2 .ensures .1 .1) (c .before .before .before .before
+    .before .enum-told .given .1) (c .before .before .plan-lines .ensures)
 
 pub list-table-spec : {M : Type 1} → statement M
 list-table-spec =

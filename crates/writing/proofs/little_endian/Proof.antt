@@ -49,7 +49,9 @@ mul-words c = search needs
 
 -- src/lib.rt:171:9
 slice-write-words : tie.Need-slice-write-words Inv-loop μ-loop
-slice-write-words c = omega (arith, (c .before .before .before .before .before .before .before .pre), (c .before .before .before .before .loop .inv) .kept, (c .before .before .before .loop-test .taken))
+slice-write-words c =
+    omega (arith, (c .before .before .before .before .before .before .before .pre), (c .before .before .before .before .loop .inv) .kept,
+    (c .before .before .before .loop-test .taken))
 
 -- src/lib.rt:170:9
 add-i : tie.Need-add-i Inv-loop μ-loop
@@ -61,7 +63,9 @@ loop-less c = search needs
 
 -- src/lib.rt:170:5
 loop-again : tie.Need-loop-again Inv-loop μ-loop
-loop-again c = table.words-turn _ _ _ _ _ (c .before .before .before .before .before .before .before .pre) (c .before .before .before .before .loop .inv) (c .before .before .before .loop-test .taken) (c .joined .ensures)
+loop-again c =
+    table.words-turn _ _ _ _ _ (c .before .before .before .before .before .before .before .pre) (c .before .before .before .before .loop
+    .inv) (c .before .before .before .loop-test .taken) (c .joined .ensures)
 
 -- src/lib.rt:166:1
 same-length : tie.Need-same-length Inv-loop μ-loop

@@ -30,7 +30,9 @@ same-length c = search needs
 
 -- src/lib.rt:138:1
 returns : tie.Need-returns
-returns c = plans.plan-lines-typed _ _ (c .before .before .before .before .before .before .before .before .before .before .first-line .ensures) (c .before .before .before .before .before .before .symbol-lines .ensures) (c .before .before .rule-lines .ensures)
+returns c =
+    plans.plan-lines-typed _ _ (c .before .before .before .before .before .before .before .before .before .before .first-line .ensures) (c
+    .before .before .before .before .before .before .symbol-lines .ensures) (c .before .before .rule-lines .ensures)
 
 pub plan-lines-spec : {M : Type 1} → statement M
 plan-lines-spec =

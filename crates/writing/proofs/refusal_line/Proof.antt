@@ -56,7 +56,15 @@ same-length c = search needs
 
 -- src/lib.rt:62:1
 returns : tie.Need-returns
-returns c = line.refusal-line-typed _ _ _ _ (c .before .before .before .before .before .before .before .before .before .before .before .before .before .before .before .before .before .number .ensures) (c .before .before .before .before .before .before .before .before .before .before .before .before .place .ensures) (c .before .before .before .before .before .before .before .second-place .ensures) (c .before .before .before .before .before .before .before .before .before .before .before .before .before .before .before .before .before .before .before .before .before .copy .ensures) (c .before .before .before .before .before .before .before .before .before .before .before .before .before .before .before .before .number2 .ensures) (c .before .before .before .before .before .before .before .before .before .before .before .number3 .ensures) (c .before .before .before .before .before .before .number4 .ensures) (c .before .before .put .ensures)
+returns c =
+    line.refusal-line-typed _ _ _ _ (c .before .before .before .before .before .before .before .before .before .before .before .before
+    .before .before .before .before .before .number .ensures) (c .before .before .before .before .before .before .before .before .before
+    .before .before .before .place .ensures) (c .before .before .before .before .before .before .before .second-place .ensures) (c .before
+    .before .before .before .before .before .before .before .before .before .before .before .before .before .before .before .before .before
+    .before .before .before .copy .ensures) (c .before .before .before .before .before .before .before .before .before .before .before
+    .before .before .before .before .before .number2 .ensures) (c .before .before .before .before .before .before .before .before .before
+    .before .before .number3 .ensures) (c .before .before .before .before .before .before .number4 .ensures) (c .before .before .put
+    .ensures)
 
 pub refusal-line-spec : {M : Type 1} → statement M
 refusal-line-spec =

@@ -76,7 +76,9 @@ loop-less c = search needs
 
 -- src/lib.rt:109:5
 loop-again : tie.Need-loop-again Inv-loop μ-loop
-loop-again c = (omega arith, plans.action-turn _ _ _ _ (c .before .before .before .word2 .ensures .0) (c .before .before .before .before .before .before .loop .inv .1) (c .before .before .number2 .ensures))
+loop-again c =
+    (omega arith, plans.action-turn _ _ _ _ (c .before .before .before .word2 .ensures .0) (c .before .before .before .before .before
+    .before .loop .inv .1) (c .before .before .number2 .ensures))
 
 -- src/lib.rt:112:5
 put-requires-2 : tie.Need-put-requires-2 Inv-loop μ-loop
@@ -84,11 +86,18 @@ put-requires-2 c κs = search needs
 
 -- src/lib.rt:102:1
 same-length : tie.Need-same-length Inv-loop μ-loop
-same-length c = (c .before .before .put2 .ensures) .kept ∙ ((c .before .before .before .before .before .loop .inv .1) .kept ∙ ((c .before .before .before .before .before .before .before .before .before .number .ensures) .kept ∙ (c .before .before .before .before .before .before .before .before .before .before .before .before .before .put .ensures) .kept))
+same-length c =
+    (c .before .before .put2 .ensures) .kept ∙ ((c .before .before .before .before .before .loop .inv .1) .kept ∙ ((c .before .before
+    .before .before .before .before .before .before .before .number .ensures) .kept ∙ (c .before .before .before .before .before .before
+    .before .before .before .before .before .before .before .put .ensures) .kept))
 
 -- src/lib.rt:102:1
 returns : tie.Need-returns Inv-loop μ-loop
-returns c = plans.rule-line-typed _ _ _ _ (c .before .before .before .before .before .before .word .ensures .0) (c .before .before .before .before .before .loop .inv .0) (c .before .before .before .before .loop-test .left) (c .before .before .before .before .before .before .before .before .before .before .before .before .before .put .ensures) (c .before .before .before .before .before .before .before .before .before .number .ensures) (c .before .before .before .before .before .loop .inv .1) (c .before .before .put2 .ensures)
+returns c =
+    plans.rule-line-typed _ _ _ _ (c .before .before .before .before .before .before .word .ensures .0) (c .before .before .before .before
+    .before .loop .inv .0) (c .before .before .before .before .loop-test .left) (c .before .before .before .before .before .before .before
+    .before .before .before .before .before .before .put .ensures) (c .before .before .before .before .before .before .before .before
+    .before .number .ensures) (c .before .before .before .before .before .loop .inv .1) (c .before .before .put2 .ensures)
 
 pub rule-line-spec : {M : Type 1} → statement M
 rule-line-spec =

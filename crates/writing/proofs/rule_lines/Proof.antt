@@ -46,7 +46,9 @@ loop-less c = search needs
 
 -- src/lib.rt:131:5
 loop-again : tie.Need-loop-again Inv-loop μ-loop
-loop-again c = (omega arith, line.blocks-turn (λ k. ruleLineOf (c .before .before .before .before .before .before .before .before .before .before .args .plan .now) k) _ (c .before .before .before .before .before .loop .inv .1) (c .before .before .rule-line .ensures))
+loop-again c =
+    (omega arith, line.blocks-turn (λ k. ruleLineOf (c .before .before .before .before .before .before .before .before .before .before
+    .args .plan .now) k) _ (c .before .before .before .before .before .loop .inv .1) (c .before .before .rule-line .ensures))
 
 -- src/lib.rt:127:1
 same-length : tie.Need-same-length Inv-loop μ-loop
@@ -54,7 +56,9 @@ same-length c = (c .before .loop .inv .1) .kept
 
 -- src/lib.rt:127:1
 returns : tie.Need-returns Inv-loop μ-loop
-returns c = line.blocks-end _ _ _ (omega (arith, (c .before .before .word .ensures .0), (c .before .loop .inv .0), (c .loop-test .left))) (c .before .loop .inv .1)
+returns c =
+    line.blocks-end _ _ _ (omega (arith, (c .before .before .word .ensures .0), (c .before .loop .inv .0), (c .loop-test .left))) (c
+    .before .loop .inv .1)
 
 pub rule-lines-spec : {M : Type 1} → statement M
 rule-lines-spec =

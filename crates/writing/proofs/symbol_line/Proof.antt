@@ -24,7 +24,8 @@ use Rattle.writing.proofs.number.Reads as number-reads
 use Rattle.writing.proofs.put.Reads as put-reads
 
 abbrev Inv-loop : tie.InvT-loop
-Inv-loop words plan x out₀ at begun named to₀ a₀ a-end out to a = (a ≤ a-end) × Adds out₀ to₀ (spaced (tabulate a (λ k. setNumber plan x k))) out to
+Inv-loop words plan x out₀ at begun named to₀ a₀ a-end out to a =
+    (a ≤ a-end) × Adds out₀ to₀ (spaced (tabulate a (λ k. setNumber plan x k))) out to
 
 abbrev μ-loop : tie.MeasureT-loop
 μ-loop words plan x out₀ at begun named to₀ a₀ a-end out to a = a-end - a
@@ -87,7 +88,9 @@ loop-less c = search needs
 
 -- src/lib.rt:95:5
 loop-again : tie.Need-loop-again Inv-loop μ-loop
-loop-again c = (omega arith, plans.set-turn _ _ _ _ (c .before .before .before .word .ensures .0) (c .before .before .before .before .before .before .loop .inv .1) (c .before .before .number3 .ensures))
+loop-again c =
+    (omega arith, plans.set-turn _ _ _ _ (c .before .before .before .word .ensures .0) (c .before .before .before .before .before .before
+    .loop .inv .1) (c .before .before .number3 .ensures))
 
 -- src/lib.rt:98:5
 put-requires-2 : tie.Need-put-requires-2 Inv-loop μ-loop
@@ -95,11 +98,24 @@ put-requires-2 c κs = search needs
 
 -- src/lib.rt:85:1
 same-length : tie.Need-same-length Inv-loop μ-loop
-same-length c = (c .before .before .put2 .ensures) .kept ∙ ((c .before .before .before .before .before .loop .inv .1) .kept ∙ ((c .before .before .before .before .before .before .before .before .before .number2 .ensures) .kept ∙ ((c .before .before .before .before .before .before .before .before .before .before .before .before .before .before .number .ensures) .kept ∙ (c .before .before .before .before .before .before .before .before .before .before .before .before .before .before .before .before .before .before .put .ensures) .kept)))
+same-length c =
+    (c .before .before .put2 .ensures) .kept ∙ ((c .before .before .before .before .before .loop .inv .1) .kept ∙ ((c .before .before
+    .before .before .before .before .before .before .before .number2 .ensures) .kept ∙ ((c .before .before .before .before .before .before
+    .before .before .before .before .before .before .before .before .number .ensures) .kept ∙ (c .before .before .before .before .before
+    .before .before .before .before .before .before .before .before .before .before .before .before .before .put .ensures) .kept)))
 
 -- src/lib.rt:85:1
 returns-2 : tie.Need-returns-2 Inv-loop μ-loop
-returns-2 c = plans.symbol-line-typed _ _ _ _ _ _ _ (c .before .before .before .before .before .before .before .before .before .before .before .before .before .before .before .before .before .before .before .before .before .nonterminal .ensures) (c .before .before .before .before .before .before .before .before .before .before .before .before .before .before .before .before .before .before .before .before .if1 .left) (c .before .before .before .before .before .before .before .before .before .before .visits-of .ensures .0) (c .before .before .before .before .before .before .attributes .ensures .0) (c .before .before .before .before .before .loop .inv .0) (c .before .before .before .before .loop-test .left) (c .before .before .before .before .before .before .before .before .before .before .before .before .before .before .before .before .before .before .put .ensures) (c .before .before .before .before .before .before .before .before .before .before .before .before .before .before .number .ensures) (c .before .before .before .before .before .before .before .before .before .number2 .ensures) (c .before .before .before .before .before .loop .inv .1) (c .before .before .put2 .ensures)
+returns-2 c =
+    plans.symbol-line-typed _ _ _ _ _ _ _ (c .before .before .before .before .before .before .before .before .before .before .before
+    .before .before .before .before .before .before .before .before .before .before .nonterminal .ensures) (c .before .before .before
+    .before .before .before .before .before .before .before .before .before .before .before .before .before .before .before .before .before
+    .if1 .left) (c .before .before .before .before .before .before .before .before .before .before .visits-of .ensures .0) (c .before
+    .before .before .before .before .before .attributes .ensures .0) (c .before .before .before .before .before .loop .inv .0) (c .before
+    .before .before .before .loop-test .left) (c .before .before .before .before .before .before .before .before .before .before .before
+    .before .before .before .before .before .before .before .put .ensures) (c .before .before .before .before .before .before .before
+    .before .before .before .before .before .before .before .number .ensures) (c .before .before .before .before .before .before .before
+    .before .before .number2 .ensures) (c .before .before .before .before .before .loop .inv .1) (c .before .before .put2 .ensures)
 
 pub symbol-line-spec : {M : Type 1} → statement M
 symbol-line-spec =

@@ -46,7 +46,10 @@ loop-less c = search needs
 
 -- src/lib.rt:120:5
 loop-again : tie.Need-loop-again Inv-loop μ-loop
-loop-again c = (omega arith, line.blocks-turn (λ k. symbolLine (c .before .before .before .before .before .before .before .before .before .before .args .words .now) (c .before .before .before .before .before .before .before .before .before .before .args .plan .now) k) _ (c .before .before .before .before .before .loop .inv .1) (c .before .before .symbol-line .ensures))
+loop-again c =
+    (omega arith, line.blocks-turn (λ k. symbolLine (c .before .before .before .before .before .before .before .before .before .before
+    .args .words .now) (c .before .before .before .before .before .before .before .before .before .before .args .plan .now) k) _ (c .before
+    .before .before .before .before .loop .inv .1) (c .before .before .symbol-line .ensures))
 
 -- src/lib.rt:116:1
 same-length : tie.Need-same-length Inv-loop μ-loop
@@ -54,7 +57,9 @@ same-length c = (c .before .loop .inv .1) .kept
 
 -- src/lib.rt:116:1
 returns : tie.Need-returns Inv-loop μ-loop
-returns c = line.blocks-end _ _ _ (omega (arith, (c .before .before .word .ensures .0), (c .before .loop .inv .0), (c .loop-test .left))) (c .before .loop .inv .1)
+returns c =
+    line.blocks-end _ _ _ (omega (arith, (c .before .before .word .ensures .0), (c .before .loop .inv .0), (c .loop-test .left))) (c
+    .before .loop .inv .1)
 
 pub symbol-lines-spec : {M : Type 1} → statement M
 symbol-lines-spec =
