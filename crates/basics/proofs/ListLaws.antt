@@ -8,8 +8,9 @@ use mathlib.Core.List.{List, [], _∷_, _++_}
 use native.Mathlib.Omega.{arith}
 use native.Mathlib.Nat.{not-suc-le-zero, suc-mul, zero-mul, mul-le-mul-right}
 use lib.Dec.{T, eqb, eqb→eq, eqb-refl, T-not}
-use lib.ListN.{length, getD, length-append, List·getD-append, replicate, length-replicate}
-use lib.Seq.{getD-append-add}
+use lib.ListN.{length, getD, set, length-append, List·getD-append, replicate, length-replicate}
+use native.Mathlib.Numerals.{add-one}
+use lib.Seq.{getD-append-add, set-at, append-snoc}
 use Rattle.basics.specs.Lists.{word, tabulate, blocks, padded, passing, member, any, without}
 use Rattle.basics.proofs.TestLaws.{below-suc, below-or-not, or-left, or-right, or-cases, tested, true-T, false-T, eq-T}
 
@@ -64,6 +65,31 @@ getD-blocks w (suc n) f d h i j l m =
 pub length-padded : (n : ℕ) (xs : List ℕ) → length xs ≤ n → length (padded n xs) ≡ n
 unfolding padded
 length-padded n xs h = omega (arith, length-append xs (replicate (n - length xs) 0), length-replicate {A = ℕ} (n - length xs) 0)
+
+-- nothing brought to length n, and one more entry in the first free place
+pub padded-none : (n : ℕ) → padded n [] ≡ replicate n 0
+unfolding padded
+padded-none n = let z : n - 0 ≡ n = omega arith in ap (λ (k : ℕ). replicate k 0) z
+
+-- one more entry goes into the first free place
+pub padded-more : (n r : ℕ) (f : ℕ → ℕ) → r < n → set (padded n (tabulate r f)) r (f r) ≡ padded n (tabulate (r + 1) f)
+unfolding padded tabulate
+padded-more n r f h =
+    let free : n - length (tabulate r f) ≡ suc (n - (r + 1)) = omega (arith, length-tabulate r f) in
+    let rest : n - (r + 1) ≡ n - length (tabulate (suc r) f) = omega (arith, length-tabulate (suc r) f) in
+    ap (λ (k : ℕ). set (tabulate r f ++ replicate k 0) r (f r)) free
+    ∙ (set-at (tabulate r f) 0 (replicate (n - (r + 1)) 0) (f r) r (length-tabulate r f)
+    ∙ (sym (append-snoc (tabulate r f) (f r) (replicate (n - (r + 1)) 0))
+    ∙ (ap (λ (k : ℕ). tabulate (suc r) f ++ replicate k 0) rest ∙ sym (ap (λ (m : ℕ). padded n (tabulate m f)) (add-one r)))))
+
+-- a member of a list is its first or one of the rest, and the empty list has none
+pub member-cases : (x y : ℕ) (ys : List ℕ) → T (member x (y ∷ ys)) → (x ≡ y) ⊎ T (member x ys)
+unfolding member
+member-cases x y ys t = ⊎-elim (λ e. inl (eqb→eq x y e)) (λ m. inr m) (or-cases (eqb x y) (member x ys) t)
+
+pub member-none : (x : ℕ) → T (member x []) → ⊥
+unfolding member
+member-none x t = t
 
 -- x stands among the passing numbers exactly where it is below n and passes
 pub member-append : (x : ℕ) (s t : List ℕ) → T (member x (s ++ t)) → T (member x s) ⊎ T (member x t)

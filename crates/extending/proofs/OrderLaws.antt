@@ -21,7 +21,7 @@ use Rattle.grammar.specs.declared.Verdict.the-variants.{Good}
 use Rattle.grammar.specs.Reading.{readTable}
 use Rattle.grammar.specs.Table.{symbols, attributes}
 use Rattle.grammar.proofs.Accepted.{accepted}
-use Rattle.reader.proofs.RuleLoop.{padded-none, padded-more}
+use Rattle.basics.proofs.ListLaws.{padded-none, padded-more}
 use Rattle.extending.specs.Order.{descends, descentsOf, orderOf}
 
 -- the test's two ways

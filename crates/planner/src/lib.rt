@@ -69,7 +69,7 @@ pub fn plan(words: &[u16], rows: &mut [u64], plan: &mut [u16]) -> Planned
     ensures { λ _. ⌜ now (rows .exit) ≡ answer.rowsAfter (now (words .entry)) (answer.outcome (now (words .entry)) (length (now (rows .entry))) (length (now (plan .entry)))) (now (rows .entry)) ⌝ }
     ensures { λ _. ⌜ now (plan .exit) ≡ answer.planAfter (now (words .entry)) (answer.outcome (now (words .entry)) (length (now (rows .entry))) (length (now (plan .entry)))) (now (plan .entry)) ⌝ }
 {
-    let reading = reader::read(words);
+    let reading = reading::read(words);
     let verdict = reading.verdict;
     if let Verdict::Refused(refusal) = verdict {
         return Planned::Refused(refusal);

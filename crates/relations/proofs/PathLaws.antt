@@ -9,6 +9,7 @@ use lib.Dec.{T, eqb, eqb→eq}
 use Rattle.basics.specs.Tests.{_and_, _or_}
 use Rattle.basics.specs.Lists.{member}
 use Rattle.basics.proofs.TestLaws.{or-left, or-right, or-cases, and-intro, and-left, and-right}
+use Rattle.basics.proofs.ListLaws.{member-cases, member-none}
 use Rattle.relations.specs.Paper.{Path⁺}
 use Rattle.relations.specs.Paths.{path}
 
@@ -41,15 +42,6 @@ path-first (Path⁺.more p e) = path-first p
 pub path-last : {R : ℕ → ℕ → Type 0} {a b : ℕ} → Path⁺ R a b → (c : ℕ) × R c b
 path-last (Path⁺.one {a = a} e) = (a, e)
 path-last (Path⁺.more {b = b} p e) = (b, e)
-
--- a member of a list is its first or one of the rest, and the empty list has none
-pub member-cases : (x y : ℕ) (ys : List ℕ) → T (member x (y ∷ ys)) → (x ≡ y) ⊎ T (member x ys)
-unfolding member
-member-cases x y ys t = ⊎-elim (λ e. inl (eqb→eq x y e)) (λ m. inr m) (or-cases (eqb x y) (member x ys) t)
-
-pub member-none : (x : ℕ) → T (member x []) → ⊥
-unfolding member
-member-none x t = t
 
 -- a path to h by way of h, or from h by way of h, is one without that detour
 once-first : (p q : Bool) → T (p or (p and q)) → T p

@@ -18,7 +18,7 @@ fn run_planned(words: &[u16], plan: &[u16], tree: &[u16], values: &mut [i32], bu
     ensures { λ r. ⌜ r ≡ whole.treeAnswer (now (words .entry)) (now (plan .entry)) (now (tree .entry)) (now (values .entry)) budget ⌝ }
     ensures { λ _. ⌜ now (values .exit) ≡ whole.treeValues (now (words .entry)) (now (plan .entry)) (now (tree .entry)) (now (values .entry)) budget ⌝ }
 {
-    let reading = reader::read(words);
+    let reading = reading::read(words);
     let verdict = checking::check(words, &reading.offsets, tree, values.len());
     if let Verdict::Refused(refusal) = verdict {
         return Ran::Refused(refusal);

@@ -36,7 +36,7 @@ use Rattle.sequences.proofs.ActionLaws.{
     ChildVisit, LeftLeave, ActionIs, computes, visitsChild, leaves, action-is, OfVisit, inherited-of, synthesized-of,
     makes-compute, makes-visit, makes-leave
 }
-use Rattle.sequences.proofs.DefiningLaws.{defining-left, defining-child}
+use Rattle.grammar.proofs.OccurrenceLaws.{defining-left, defining-child}
 use Rattle.sequences.proofs.FollowsLaws.{follows-cases}
 
 -- the attribute's set is one of 1, 2 and so on, and of its class

@@ -2,7 +2,6 @@ pub mod Rising
 pub mod OrderLaws
 pub mod ActionLaws
 pub mod FollowsLaws
-pub mod DefiningLaws
 pub mod Heights
 pub mod Ready
 pub mod SequenceLaws

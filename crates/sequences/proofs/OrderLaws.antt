@@ -10,11 +10,11 @@ use lib.Dec.{T, eqb, eqb→eq, T-not, not-T}
 use lib.ListN.{length, getD}
 use Rattle.basics.specs.Lists.{member, any, without}
 use Rattle.basics.proofs.TestLaws.{true-T, false-T, T-false, eq-T, below-or-not, same-or-not}
-use Rattle.basics.proofs.ListLaws.{any-at, any-find}
+use Rattle.basics.proofs.ListLaws.{any-at, any-find, member-cases, member-none}
 use Rattle.sequences.specs.Actions.{actionNumbers}
 use Rattle.sequences.specs.Order.{ready, firstReady, order}
 use Rattle.sequences.proofs.Rising.{
-    Rising, member-cases, member-first, member-rest, member-none, without-member, member-without, rising-without, length-without
+    Rising, member-first, member-rest, without-member, member-without, rising-without, length-without
 }
 
 -- a stands at a place before place j

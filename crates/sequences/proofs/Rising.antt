@@ -11,17 +11,12 @@ use lib.ListN.{length, getD, length-append}
 use Rattle.basics.specs.Tests.{count}
 use Rattle.basics.specs.Lists.{member, without, passing}
 use Rattle.basics.proofs.TestLaws.{or-left, or-right, or-cases, true-T, false-T, eq-T, below-or-not}
-use Rattle.basics.proofs.ListLaws.{member-append, passing-member}
+use Rattle.basics.proofs.ListLaws.{member-append, passing-member, member-cases, member-none}
 
 -- each number is below all that stand after it
 abbrev pub Rising : List ℕ → Type 0
 Rising [] = Unit {0}
 Rising (x ∷ xs) = ((y : ℕ) → T (member y xs) → x < y) × Rising xs
-
--- a member is the first or one of the rest
-pub member-cases : (x y : ℕ) (ys : List ℕ) → T (member x (y ∷ ys)) → (x ≡ y) ⊎ T (member x ys)
-unfolding member
-member-cases x y ys t = ⊎-elim (λ e. inl (eqb→eq x y e)) (λ m. inr m) (or-cases (eqb x y) (member x ys) t)
 
 -- the first is a member
 pub member-first : (x : ℕ) (ys : List ℕ) → T (member x (x ∷ ys))
@@ -32,11 +27,6 @@ member-first x ys = or-left (eqb x x) (member x ys) (eqb-refl x)
 pub member-rest : (x y : ℕ) (ys : List ℕ) → T (member x ys) → T (member x (y ∷ ys))
 unfolding member
 member-rest x y ys t = or-right (eqb x y) (member x ys) t
-
--- the empty list has none
-pub member-none : (x : ℕ) → T (member x []) → ⊥
-unfolding member
-member-none x t = t
 
 -- what stands at a place is a member
 pub getD-member : (xs : List ℕ) (j d : ℕ) → j < length xs → T (member (getD xs j d) xs)

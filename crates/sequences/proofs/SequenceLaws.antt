@@ -35,7 +35,7 @@ use Rattle.sequences.proofs.ActionLaws.{
     actions-member, actions-below, actions-rise, at-most-104, inherited-of, synthesized-of, of-inherited, of-synthesized,
     makes-compute, compute-makes, visit-makes, leave-makes
 }
-use Rattle.sequences.proofs.DefiningLaws.{left-defining, child-defining}
+use Rattle.grammar.proofs.OccurrenceLaws.{left-defining, child-defining}
 use Rattle.sequences.proofs.FollowsLaws.{
     visit-after-visit, visit-after-compute, leave-after-leave, leave-after-compute, last-leave-after, compute-after
 }

@@ -21,7 +21,7 @@ use Rattle.sequences.proofs.ActionLaws.{
     ActionIs, computes, visitsChild, leaves, action-is, inherited-of, synthesized-of, of-inherited, of-synthesized, makes-compute,
     makes-visit, makes-leave
 }
-use Rattle.sequences.proofs.DefiningLaws.{defining-left, defining-child}
+use Rattle.grammar.proofs.OccurrenceLaws.{defining-left, defining-child}
 use Rattle.sequences.proofs.Heights.{
     Orderly, setAt, symbol-fits, left-nonterminal, BesideArc, beside-find, set-even, set-odd, set-inherited, set-synthesized
 }

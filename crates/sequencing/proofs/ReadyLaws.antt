@@ -22,7 +22,7 @@ use Rattle.sequences.proofs.ActionLaws.{
     ChildVisit, LeftLeave, ActionIs, computes, visitsChild, leaves, action-is, OfVisit, inherited-of, synthesized-of, of-inherited,
     decode-compute, makes-compute, makes-visit, makes-leave, compute-makes
 }
-use Rattle.sequences.proofs.DefiningLaws.{defining-left, defining-child, child-defining}
+use Rattle.grammar.proofs.OccurrenceLaws.{defining-left, defining-child, child-defining}
 use Rattle.sequences.proofs.FollowsLaws.{
     Linked, follows-cases, follows-linked, visit-after-visit, visit-after-compute, leave-after-leave, compute-after
 }

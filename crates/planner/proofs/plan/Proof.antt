@@ -7,7 +7,7 @@ use Rattle.planner.proofs.plan.Reads as reads
 use Rattle.planner.proofs.plan.Lts as lts
 use Rattle.planner.proofs.plan_relations.Reads as plan-relations-reads
 use Rattle.planner.proofs.room.Reads as room-reads
-use Rattle.reader.proofs.read.Reads as read-reads
+use Rattle.reading.proofs.read.Reads as read-reads
 
 read-requires : tie.Need-read-requires
 read-requires c κs = search needs

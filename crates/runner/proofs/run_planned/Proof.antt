@@ -8,7 +8,7 @@ use Rattle.runner.proofs.run_planned.Reads as reads
 use Rattle.runner.proofs.run_planned.Lts as lts
 use Rattle.checking.proofs.check.Reads as check-reads
 use Rattle.executing.proofs.execute.Reads as execute-reads
-use Rattle.reader.proofs.read.Reads as read-reads
+use Rattle.reading.proofs.read.Reads as read-reads
 
 read-requires : tie.Need-read-requires
 read-requires c κs = search needs

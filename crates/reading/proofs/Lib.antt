@@ -1,0 +1,3 @@
+pub mod FunctionLoop
+pub mod RuleLaws
+pub mod RuleLoop

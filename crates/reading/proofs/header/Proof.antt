@@ -1,0 +1,74 @@
+-- `reading::header` meets its contract: its three range tests stand in the definition's order, each on the word that was read. Assumes nothing.
+use borrow.Author.Needs.{needs}
+use Rattle.grammar.specs.Reading.{header}
+use Rattle.reader.proofs.Laws.{stops, passes, ranged-of, between-of, ltb-of}
+use Rattle.reading.proofs.header.Statement.{statement}
+use Rattle.reading.proofs.header.Tie as tie
+
+word-requires : tie.Need-word-requires
+word-requires c κs = search needs
+
+between-requires : tie.Need-between-requires
+between-requires c κs = search needs
+
+ranged-requires : tie.Need-ranged-requires
+ranged-requires c κs = search needs
+
+enum-told : tie.Need-enum-told
+enum-told c = search needs
+
+enum-told-2 : tie.Need-enum-told-2
+enum-told-2 c = search needs
+
+returns : tie.Need-returns
+unfolding header
+returns c = search (stops, passes, ranged-of, between-of, ltb-of) depth 8
+
+word-requires-2 : tie.Need-word-requires-2
+word-requires-2 c κs = search needs
+
+between-requires-2 : tie.Need-between-requires-2
+between-requires-2 c κs = search needs
+
+ranged-requires-2 : tie.Need-ranged-requires-2
+ranged-requires-2 c κs = search needs
+
+enum-told-3 : tie.Need-enum-told-3
+enum-told-3 c = search needs
+
+enum-told-4 : tie.Need-enum-told-4
+enum-told-4 c = search needs
+
+returns-2 : tie.Need-returns-2
+unfolding header
+returns-2 c = search (stops, passes, ranged-of, between-of, ltb-of) depth 8
+
+word-requires-3 : tie.Need-word-requires-3
+word-requires-3 c κs = search needs
+
+ranged-requires-3 : tie.Need-ranged-requires-3
+ranged-requires-3 c κs = search needs
+
+returns-3 : tie.Need-returns-3
+unfolding header
+returns-3 c = search (stops, passes, ranged-of, between-of, ltb-of) depth 8
+
+pub header-spec : {M : Type 1} → statement M
+header-spec =
+    tie.close
+    (tie.spec
+    word-requires
+    between-requires
+    ranged-requires
+    enum-told
+    enum-told-2
+    returns
+    word-requires-2
+    between-requires-2
+    ranged-requires-2
+    enum-told-3
+    enum-told-4
+    returns-2
+    word-requires-3
+    ranged-requires-3
+    returns-3)
