@@ -39,11 +39,8 @@ enum-told-2 c = search needs
 
 returns-2 : tie.Need-returns-2
 returns-2 c =
-    answer-13 (c .before .before .before .before .before .before .before .args .words .now) (c .before .before .before .before .before
-    .before .before .args .t .now) (c .before .before .before .before .before .before .before .args .values) (c .before .before .before
-    .before .size-fits .result) (c .before .before .nodes-fault .result) _ (c .before .before .before .before .size-fits .ensures)
-    (not-false (c .before .before .before .before .size-fits .result) (c .before .before .before .if1 .left)) (c .before .before
-    .nodes-fault .ensures) (c .enum-told2 .given .1)
+    answer-13 _ _ _ _ _ _ (c .before .before .before .before .size-fits .ensures) (not-false _ (c .before .before .before .if1 .left)) (c
+    .before .before .nodes-fault .ensures) (c .enum-told2 .given .1)
 
 symbol-at-node-requires : tie.Need-symbol-at-node-requires
 symbol-at-node-requires c κs =
@@ -63,14 +60,9 @@ word-requires c κs = search needs
 
 returns-3 : tie.Need-returns-3
 returns-3 c =
-    answer-15 (c .before .before .before .before .before .before .before .before .before .before .args .words .now) (c .before .before
-    .before .before .before .before .before .before .before .before .args .t .now) (c .before .before .before .before .before .before
-    .before .before .before .before .args .values) (c .before .before .before .before .before .before .before .size-fits .result) (c
-    .before .before .before .before .before .nodes-fault .result) (c .before .before .symbol-at-node .result) (c .before .word .result) (c
-    .before .before .before .before .before .before .before .size-fits .ensures) (not-false (c .before .before .before .before .before
-    .before .before .size-fits .result) (c .before .before .before .before .before .before .if1 .left)) (c .before .before .before .before
-    .before .nodes-fault .ensures) (c .before .before .before .enum-told .given .1) (c .before .before .symbol-at-node .ensures) (c .before
-    .word .ensures .0) (c .if2 .taken)
+    answer-15 _ _ _ _ _ _ _ (c .before .before .before .before .before .before .before .size-fits .ensures) (not-false _ (c .before .before
+    .before .before .before .before .if1 .left)) (c .before .before .before .before .before .nodes-fault .ensures) (c .before .before
+    .before .enum-told .given .1) (c .before .before .symbol-at-node .ensures) (c .before .word .ensures .0) (c .if2 .taken)
 
 children-fault-requires : tie.Need-children-fault-requires
 children-fault-requires c κs =
@@ -93,20 +85,11 @@ enum-told-4 c = search needs
 
 returns-4 : tie.Need-returns-4
 returns-4 c =
-    answer-16 (c .before .before .before .before .before .before .before .before .before .before .before .before .before .args .words .now)
-    (c .before .before .before .before .before .before .before .before .before .before .before .before .before .args .t .now) (c .before
-    .before .before .before .before .before .before .before .before .before .before .before .before .args .values) (c .before .before
-    .children-fault .result) _ (passed-15 (c .before .before .before .before .before .before .before .before .before .before .before
-    .before .before .args .words .now) (c .before .before .before .before .before .before .before .before .before .before .before .before
-    .before .args .t .now) (c .before .before .before .before .before .before .before .before .before .before .before .before .before .args
-    .values) (c .before .before .before .before .before .before .before .before .before .before .size-fits .result) (c .before .before
-    .before .before .before .before .before .before .nodes-fault .result) (c .before .before .before .before .before .symbol-at-node
-    .result) (c .before .before .before .before .word .result) (c .before .before .before .before .before .before .before .before .before
-    .before .size-fits .ensures) (not-false (c .before .before .before .before .before .before .before .before .before .before .size-fits
-    .result) (c .before .before .before .before .before .before .before .before .before .if1 .left)) (c .before .before .before .before
-    .before .before .before .before .nodes-fault .ensures) (c .before .before .before .before .before .before .enum-told .given .1) (c
-    .before .before .before .before .before .symbol-at-node .ensures) (c .before .before .before .before .word .ensures .0) (c .before
-    .before .before .if2 .left)) (c .before .before .children-fault .ensures) (c .enum-told4 .given .1)
+    answer-16 _ _ _ _ _ (passed-15 _ _ _ _ _ _ _ (c .before .before .before .before .before .before .before .before .before .before
+    .size-fits .ensures) (not-false _ (c .before .before .before .before .before .before .before .before .before .if1 .left)) (c .before
+    .before .before .before .before .before .before .before .nodes-fault .ensures) (c .before .before .before .before .before .before
+    .enum-told .given .1) (c .before .before .before .before .before .symbol-at-node .ensures) (c .before .before .before .before .word
+    .ensures .0) (c .before .before .before .if2 .left)) (c .before .before .children-fault .ensures) (c .enum-told4 .given .1)
 
 count-names-requires : tie.Need-count-names-requires
 count-names-requires c κs =
@@ -125,11 +108,8 @@ count-names-requires c κs =
 
 names-fault-requires : tie.Need-names-fault-requires
 names-fault-requires c κs =
-    (size-shows (c .before .before .before .before .before .before .before .before .before .before .before .before .before .before .before
-    .args .t .now) (c .before .before .before .before .before .before .before .before .before .before .before .before .size-fits .result)
-    (c .before .before .before .before .before .before .before .before .before .before .before .before .size-fits .ensures) (not-false (c
-    .before .before .before .before .before .before .before .before .before .before .before .before .size-fits .result) (c .before .before
-    .before .before .before .before .before .before .before .before .before .if1 .left)) .1)
+    (size-shows _ _ (c .before .before .before .before .before .before .before .before .before .before .before .before .size-fits .ensures)
+    (not-false _ (c .before .before .before .before .before .before .before .before .before .before .before .if1 .left)) .1)
 
 enum-told-5 : tie.Need-enum-told-5
 enum-told-5 c = search needs
@@ -139,100 +119,50 @@ enum-told-6 c = search needs
 
 returns-5 : tie.Need-returns-5
 returns-5 c =
-    answer-17 (c .before .before .before .before .before .before .before .before .before .before .before .before .before .before .before
-    .before .before .before .args .words .now) (c .before .before .before .before .before .before .before .before .before .before .before
-    .before .before .before .before .before .before .before .args .t .now) _ (c .before .before .before .before .before .before .before
-    .before .before .before .before .before .before .before .before .before .before .before .args .values) (c .before .before .before
-    .before .before .before .before .children-fault .result) (c .before .before .names-fault .result) _ (size-shows (c .before .before
-    .before .before .before .before .before .before .before .before .before .before .before .before .before .before .before .before .args
-    .t .now) (c .before .before .before .before .before .before .before .before .before .before .before .before .before .before .before
-    .size-fits .result) (c .before .before .before .before .before .before .before .before .before .before .before .before .before .before
-    .before .size-fits .ensures) (not-false (c .before .before .before .before .before .before .before .before .before .before .before
-    .before .before .before .before .size-fits .result) (c .before .before .before .before .before .before .before .before .before .before
-    .before .before .before .before .if1 .left)) .1) (passed-15 (c .before .before .before .before .before .before .before .before .before
-    .before .before .before .before .before .before .before .before .before .args .words .now) (c .before .before .before .before .before
-    .before .before .before .before .before .before .before .before .before .before .before .before .before .args .t .now) (c .before
-    .before .before .before .before .before .before .before .before .before .before .before .before .before .before .before .before .before
-    .args .values) (c .before .before .before .before .before .before .before .before .before .before .before .before .before .before
-    .before .size-fits .result) (c .before .before .before .before .before .before .before .before .before .before .before .before .before
-    .nodes-fault .result) (c .before .before .before .before .before .before .before .before .before .before .symbol-at-node .result) (c
-    .before .before .before .before .before .before .before .before .before .word .result) (c .before .before .before .before .before
-    .before .before .before .before .before .before .before .before .before .before .size-fits .ensures) (not-false (c .before .before
-    .before .before .before .before .before .before .before .before .before .before .before .before .before .size-fits .result) (c .before
-    .before .before .before .before .before .before .before .before .before .before .before .before .before .if1 .left)) (c .before .before
-    .before .before .before .before .before .before .before .before .before .before .before .nodes-fault .ensures) (c .before .before
-    .before .before .before .before .before .before .before .before .before .enum-told .given .1) (c .before .before .before .before
-    .before .before .before .before .before .before .symbol-at-node .ensures) (c .before .before .before .before .before .before .before
-    .before .before .word .ensures .0) (c .before .before .before .before .before .before .before .before .if2 .left)) (c .before .before
-    .before .before .before .before .before .children-fault .ensures) (c .before .before .before .before .before .enum-told3 .given .1) (c
-    .before .before .before .before .count-names .ensures) (c .before .before .names-fault .ensures) (c .enum-told6 .given .1)
+    answer-17 _ _ _ _ _ _ _ (size-shows _ _ (c .before .before .before .before .before .before .before .before .before .before .before
+    .before .before .before .before .size-fits .ensures) (not-false _ (c .before .before .before .before .before .before .before .before
+    .before .before .before .before .before .before .if1 .left)) .1) (passed-15 _ _ _ _ _ _ _ (c .before .before .before .before .before
+    .before .before .before .before .before .before .before .before .before .before .size-fits .ensures) (not-false _ (c .before .before
+    .before .before .before .before .before .before .before .before .before .before .before .before .if1 .left)) (c .before .before .before
+    .before .before .before .before .before .before .before .before .before .before .nodes-fault .ensures) (c .before .before .before
+    .before .before .before .before .before .before .before .before .enum-told .given .1) (c .before .before .before .before .before
+    .before .before .before .before .before .symbol-at-node .ensures) (c .before .before .before .before .before .before .before .before
+    .before .word .ensures .0) (c .before .before .before .before .before .before .before .before .if2 .left)) (c .before .before .before
+    .before .before .before .before .children-fault .ensures) (c .before .before .before .before .before .enum-told3 .given .1) (c .before
+    .before .before .before .count-names .ensures) (c .before .before .names-fault .ensures) (c .enum-told6 .given .1)
 
 mul-if3 : tie.Need-mul-if3
 mul-if3 c = search needs
 
 returns-6 : tie.Need-returns-6
 returns-6 c =
-    answer-18 (c .before .before .before .before .before .before .before .before .before .before .before .before .before .before .before
-    .before .before .before .before .args .words .now) (c .before .before .before .before .before .before .before .before .before .before
-    .before .before .before .before .before .before .before .before .before .args .t .now) _ (c .before .before .before .before .before
-    .before .before .before .before .before .before .before .before .before .before .before .before .before .before .args .values) (c
-    .before .before .before .before .before .before .before .before .children-fault .result) (c .before .before .before .names-fault
-    .result) (size-shows (c .before .before .before .before .before .before .before .before .before .before .before .before .before .before
-    .before .before .before .before .before .args .t .now) (c .before .before .before .before .before .before .before .before .before
-    .before .before .before .before .before .before .before .size-fits .result) (c .before .before .before .before .before .before .before
-    .before .before .before .before .before .before .before .before .before .size-fits .ensures) (not-false (c .before .before .before
-    .before .before .before .before .before .before .before .before .before .before .before .before .before .size-fits .result) (c .before
-    .before .before .before .before .before .before .before .before .before .before .before .before .before .before .if1 .left)) .1)
-    (passed-15 (c .before .before .before .before .before .before .before .before .before .before .before .before .before .before .before
-    .before .before .before .before .args .words .now) (c .before .before .before .before .before .before .before .before .before .before
-    .before .before .before .before .before .before .before .before .before .args .t .now) (c .before .before .before .before .before
-    .before .before .before .before .before .before .before .before .before .before .before .before .before .before .args .values) (c
-    .before .before .before .before .before .before .before .before .before .before .before .before .before .before .before .before
-    .size-fits .result) (c .before .before .before .before .before .before .before .before .before .before .before .before .before .before
-    .nodes-fault .result) (c .before .before .before .before .before .before .before .before .before .before .before .symbol-at-node
-    .result) (c .before .before .before .before .before .before .before .before .before .before .word .result) (c .before .before .before
+    answer-18 _ _ _ _ _ _ (size-shows _ _ (c .before .before .before .before .before .before .before .before .before .before .before
+    .before .before .before .before .before .size-fits .ensures) (not-false _ (c .before .before .before .before .before .before .before
+    .before .before .before .before .before .before .before .before .if1 .left)) .1) (passed-15 _ _ _ _ _ _ _ (c .before .before .before
     .before .before .before .before .before .before .before .before .before .before .before .before .before .size-fits .ensures) (not-false
-    (c .before .before .before .before .before .before .before .before .before .before .before .before .before .before .before .before
-    .size-fits .result) (c .before .before .before .before .before .before .before .before .before .before .before .before .before .before
-    .before .if1 .left)) (c .before .before .before .before .before .before .before .before .before .before .before .before .before .before
-    .nodes-fault .ensures) (c .before .before .before .before .before .before .before .before .before .before .before .before .enum-told
-    .given .1) (c .before .before .before .before .before .before .before .before .before .before .before .symbol-at-node .ensures) (c
-    .before .before .before .before .before .before .before .before .before .before .word .ensures .0) (c .before .before .before .before
-    .before .before .before .before .before .if2 .left)) (c .before .before .before .before .before .before .before .before .children-fault
-    .ensures) (c .before .before .before .before .before .before .enum-told3 .given .1) (c .before .before .before .before .before
-    .count-names .ensures) (c .before .before .before .names-fault .ensures) (c .before .enum-told5 .given .1) (c .if3 .taken)
+    _ (c .before .before .before .before .before .before .before .before .before .before .before .before .before .before .before .if1
+    .left)) (c .before .before .before .before .before .before .before .before .before .before .before .before .before .before .nodes-fault
+    .ensures) (c .before .before .before .before .before .before .before .before .before .before .before .before .enum-told .given .1) (c
+    .before .before .before .before .before .before .before .before .before .before .before .symbol-at-node .ensures) (c .before .before
+    .before .before .before .before .before .before .before .before .word .ensures .0) (c .before .before .before .before .before .before
+    .before .before .before .if2 .left)) (c .before .before .before .before .before .before .before .before .children-fault .ensures) (c
+    .before .before .before .before .before .before .enum-told3 .given .1) (c .before .before .before .before .before .count-names
+    .ensures) (c .before .before .before .names-fault .ensures) (c .before .enum-told5 .given .1) (c .if3 .taken)
 
 returns-7 : tie.Need-returns-7
 returns-7 c =
-    answer-good (c .before .before .before .before .before .before .before .before .before .before .before .before .before .before .before
-    .before .before .before .before .args .words .now) (c .before .before .before .before .before .before .before .before .before .before
-    .before .before .before .before .before .before .before .before .before .args .t .now) _ (c .before .before .before .before .before
-    .before .before .before .before .before .before .before .before .before .before .before .before .before .before .args .values) (c
-    .before .before .before .before .before .before .before .before .children-fault .result) (c .before .before .before .names-fault
-    .result) (size-shows (c .before .before .before .before .before .before .before .before .before .before .before .before .before .before
-    .before .before .before .before .before .args .t .now) (c .before .before .before .before .before .before .before .before .before
-    .before .before .before .before .before .before .before .size-fits .result) (c .before .before .before .before .before .before .before
-    .before .before .before .before .before .before .before .before .before .size-fits .ensures) (not-false (c .before .before .before
-    .before .before .before .before .before .before .before .before .before .before .before .before .before .size-fits .result) (c .before
-    .before .before .before .before .before .before .before .before .before .before .before .before .before .before .if1 .left)) .1)
-    (passed-15 (c .before .before .before .before .before .before .before .before .before .before .before .before .before .before .before
-    .before .before .before .before .args .words .now) (c .before .before .before .before .before .before .before .before .before .before
-    .before .before .before .before .before .before .before .before .before .args .t .now) (c .before .before .before .before .before
-    .before .before .before .before .before .before .before .before .before .before .before .before .before .before .args .values) (c
-    .before .before .before .before .before .before .before .before .before .before .before .before .before .before .before .before
-    .size-fits .result) (c .before .before .before .before .before .before .before .before .before .before .before .before .before .before
-    .nodes-fault .result) (c .before .before .before .before .before .before .before .before .before .before .before .symbol-at-node
-    .result) (c .before .before .before .before .before .before .before .before .before .before .word .result) (c .before .before .before
+    answer-good _ _ _ _ _ _ (size-shows _ _ (c .before .before .before .before .before .before .before .before .before .before .before
+    .before .before .before .before .before .size-fits .ensures) (not-false _ (c .before .before .before .before .before .before .before
+    .before .before .before .before .before .before .before .before .if1 .left)) .1) (passed-15 _ _ _ _ _ _ _ (c .before .before .before
     .before .before .before .before .before .before .before .before .before .before .before .before .before .size-fits .ensures) (not-false
-    (c .before .before .before .before .before .before .before .before .before .before .before .before .before .before .before .before
-    .size-fits .result) (c .before .before .before .before .before .before .before .before .before .before .before .before .before .before
-    .before .if1 .left)) (c .before .before .before .before .before .before .before .before .before .before .before .before .before .before
-    .nodes-fault .ensures) (c .before .before .before .before .before .before .before .before .before .before .before .before .enum-told
-    .given .1) (c .before .before .before .before .before .before .before .before .before .before .before .symbol-at-node .ensures) (c
-    .before .before .before .before .before .before .before .before .before .before .word .ensures .0) (c .before .before .before .before
-    .before .before .before .before .before .if2 .left)) (c .before .before .before .before .before .before .before .before .children-fault
-    .ensures) (c .before .before .before .before .before .before .enum-told3 .given .1) (c .before .before .before .before .before
-    .count-names .ensures) (c .before .before .before .names-fault .ensures) (c .before .enum-told5 .given .1) (c .if3 .left)
+    _ (c .before .before .before .before .before .before .before .before .before .before .before .before .before .before .before .if1
+    .left)) (c .before .before .before .before .before .before .before .before .before .before .before .before .before .before .nodes-fault
+    .ensures) (c .before .before .before .before .before .before .before .before .before .before .before .before .enum-told .given .1) (c
+    .before .before .before .before .before .before .before .before .before .before .before .symbol-at-node .ensures) (c .before .before
+    .before .before .before .before .before .before .before .before .word .ensures .0) (c .before .before .before .before .before .before
+    .before .before .before .if2 .left)) (c .before .before .before .before .before .before .before .before .children-fault .ensures) (c
+    .before .before .before .before .before .before .enum-told3 .given .1) (c .before .before .before .before .before .count-names
+    .ensures) (c .before .before .before .names-fault .ensures) (c .before .enum-told5 .given .1) (c .if3 .left)
 
 pub check-spec : {M : Type 1} → statement M
 check-spec =

@@ -19,17 +19,17 @@ word-requires : tie.Need-word-requires
 word-requires c κs = search needs
 
 symbol-at-node-requires : tie.Need-symbol-at-node-requires
-symbol-at-node-requires c κs = 
-    (c .before .before .before .pre .0,
-    child-known (c .before .before .before .args .words .now) (c .before .before .before .args .t .now) (c .before .before .before .args .n) (c .before .before .before .args .p) (c .before .before .before .args .i) (c .word .result) (c .before .before .before .pre .1 .0) (c .before .before .before .pre .1 .1) (c .word .ensures .0))
+symbol-at-node-requires c κs =
+    (c .before .before .before .pre .0, child-known _ _ _ _ _ _ (c .before .before .before .pre .1 .0) (c .before .before .before .pre .1
+    .1) (c .word .ensures .0))
 
 symbol-of-requires : tie.Need-symbol-of-requires
 symbol-of-requires c κs = search needs
 
 returns : tie.Need-returns
-returns c = 
-    child-test (c .before .before .before .before .before .args .words .now) (c .before .before .before .before .before .args .t .now) (c .before .before .before .before .before .args .n) (c .before .before .before .before .before .args .p) (c .before .before .before .before .before .args .i) (c .before .before .word .result) (c .before .symbol-at-node .result)
-    (c .symbol-of .result) (c .before .before .before .before .before .pre .1 .1) (c .before .before .word .ensures .0) (c .before .symbol-at-node .ensures) (c .symbol-of .ensures .0)
+returns c =
+    child-test _ _ _ _ _ _ _ _ (c .before .before .before .before .before .pre .1 .1) (c .before .before .word .ensures .0) (c .before
+    .symbol-at-node .ensures) (c .symbol-of .ensures .0)
 
 pub child-fits-spec : {M : Type 1} → statement M
 child-fits-spec =

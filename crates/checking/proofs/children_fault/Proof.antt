@@ -29,9 +29,9 @@ children-fit-requires : tie.Need-children-fit-requires Inv-loop μ-loop
 children-fit-requires c κs = search needs
 
 returns : tie.Need-returns Inv-loop μ-loop
-returns c = 
-    each-stop (c .before .before .before .before .before .before .args .nodes) (c .before .before .before .loop .n) (λ m. childrenFault (c .before .before .before .before .before .before .args .words .now) (c .before .before .before .before .before .before .args .t .now) m) (Refused (ChildDiffers (c .before .before .before .loop .n))) (ChildDiffers (c .before .before .before .loop .n)) (omega arith)
-    (c .before .before .before .loop .inv .1) (children-refused (c .before .before .before .before .before .before .args .words .now) (c .before .before .before .before .before .before .args .t .now) (c .before .before .before .loop .n) (c .before .children-fit .result) (c .before .children-fit .ensures) (not-true (c .before .children-fit .result) (c .if1 .taken))) refl
+returns c =
+    each-stop _ _ (λ m. childrenFault _ _ m) (Refused (ChildDiffers _)) (ChildDiffers _) (omega arith) (c .before .before .before .loop
+    .inv .1) (children-refused _ _ _ _ (c .before .children-fit .ensures) (not-true _ (c .if1 .taken))) refl
 
 add-n : tie.Need-add-n Inv-loop μ-loop
 add-n c = search needs
@@ -40,10 +40,9 @@ loop-less : tie.Need-loop-less Inv-loop μ-loop
 loop-less c = search needs
 
 loop-again : tie.Need-loop-again Inv-loop μ-loop
-loop-again c = 
-    (omega arith,
-    each-more (c .before .before .before .loop .n) (λ m. childrenFault (c .before .before .before .before .before .before .args .words .now) (c .before .before .before .before .before .before .args .t .now) m) Good (c .before .before .before .loop .inv .1)
-    (children-passed (c .before .before .before .before .before .before .args .words .now) (c .before .before .before .before .before .before .args .t .now) (c .before .before .before .loop .n) (c .before .children-fit .result) (c .before .children-fit .ensures) (not-false (c .before .children-fit .result) (c .if1 .left))) refl)
+loop-again c =
+    (omega arith, each-more _ (λ m. childrenFault _ _ m) Good (c .before .before .before .loop .inv .1) (children-passed _ _ _ _ (c .before
+    .children-fit .ensures) (not-false _ (c .if1 .left))) refl)
 
 returns-2 : tie.Need-returns-2 Inv-loop μ-loop
 returns-2 c = search (each-end, arith)

@@ -22,42 +22,36 @@ mul-p c = search needs
 
 element-copy-out-p : tie.Need-element-copy-out-p
 element-copy-out-p c =
-    few-rules (c .before .before .before .before .args .words .now) (c .before .before .before .before .args .offsets .now) (c .before
-    .word .result) (c .before .before .before .before .pre .0) (below-of-known (c .before .before .before .before .args .words .now) (c
-    .before .before .before .before .args .t .now) (c .before .before .before .before .args .n) (c .before .word .result) (c .before
-    .before .before .before .pre .1 .0) (c .before .before .before .before .pre .1 .1) (c .before .word .ensures .0) (c .if1 .taken))
+    few-rules _ _ _ (c .before .before .before .before .pre .0) (below-of-known _ _ _ _ (c .before .before .before .before .pre .1 .0) (c
+    .before .before .before .before .pre .1 .1) (c .before .word .ensures .0) (c .if1 .taken))
 
 cast-p : tie.Need-cast-p
-cast-p c = 
-    record {
-        fits =
-            omega (arith, offset-fits (c .before .before .before .before .before .args .words .now) (c .before .before .before .before
-            .before .args .offsets .now) (c .before .before .word .result) (c .before .before .before .before .before .pre .0)
-            (below-of-known (c .before .before .before .before .before .args .words .now) (c .before .before .before .before .before .args
-            .t .now) (c .before .before .before .before .before .args .n) (c .before .before .word .result) (c .before .before .before
-            .before .before .pre .1 .0) (c .before .before .before .before .before .pre .1 .1) (c .before .before .word .ensures .0) (c
-            .before .if1 .taken)))
-    }
+cast-p c =
+    record { fits = omega (arith, offset-fits _ _ _ (c .before .before .before .before .before .pre .0) (below-of-known _ _ _ _ (c .before
+    .before .before .before .before .pre .1 .0) (c .before .before .before .before .before .pre .1 .1) (c .before .before .word .ensures
+    .0) (c .before .if1 .taken))) }
 
 right-length-requires : tie.Need-right-length-requires
 right-length-requires c κs =
-    offset-fits (c .before .before .before .before .before .args .words .now) (c .before .before .before .before .before .args .offsets
-    .now) (c .before .before .word .result) (c .before .before .before .before .before .pre .0) (below-of-known (c .before .before .before
-    .before .before .args .words .now) (c .before .before .before .before .before .args .t .now) (c .before .before .before .before .before
-    .args .n) (c .before .before .word .result) (c .before .before .before .before .before .pre .1 .0) (c .before .before .before .before
-    .before .pre .1 .1) (c .before .before .word .ensures .0) (c .before .if1 .taken))
+    offset-fits _ _ _ (c .before .before .before .before .before .pre .0) (below-of-known _ _ _ _ (c .before .before .before .before
+    .before .pre .1 .0) (c .before .before .before .before .before .pre .1 .1) (c .before .before .word .ensures .0) (c .before .if1
+    .taken))
 
 slots-match-requires : tie.Need-slots-match-requires
-slots-match-requires c κs = 
-    (c .before .before .before .before .before .before .pre .0, (c .before .before .before .before .before .before .pre .1 .0,
-    rule-slots (c .before .before .before .before .before .before .args .words .now) (c .before .before .before .before .before .before .args .offsets .now) (c .before .before .before .before .before .before .args .t .now) (c .before .before .before .before .before .before .args .n) (c .before .before .before .word .result) _ (c .right-length .result) (c .before .before .before .before .before .before .pre .0) (c .before .before .before .before .before .before .pre .1 .1) (c .before .before .before .word .ensures .0)
-    (c .before .before .if1 .taken) (below-of-known (c .before .before .before .before .before .before .args .words .now) (c .before .before .before .before .before .before .args .t .now) (c .before .before .before .before .before .before .args .n) (c .before .before .before .word .result) (c .before .before .before .before .before .before .pre .1 .0) (c .before .before .before .before .before .before .pre .1 .1) (c .before .before .before .word .ensures .0) (c .before .before .if1 .taken)) refl (c .right-length .ensures .0)))
+slots-match-requires c κs =
+    (c .before .before .before .before .before .before .pre .0, (c .before .before .before .before .before .before .pre .1 .0, rule-slots _
+    _ _ _ _ _ _ (c .before .before .before .before .before .before .pre .0) (c .before .before .before .before .before .before .pre .1 .1)
+    (c .before .before .before .word .ensures .0) (c .before .before .if1 .taken) (below-of-known _ _ _ _ (c .before .before .before
+    .before .before .before .pre .1 .0) (c .before .before .before .before .before .before .pre .1 .1) (c .before .before .before .word
+    .ensures .0) (c .before .before .if1 .taken)) refl (c .right-length .ensures .0)))
 
 returns : tie.Need-returns
-returns c = 
-    children-rule (c .before .before .before .before .before .before .before .args .words .now) (c .before .before .before .before .before .before .before .args .t .now) (c .before .before .before .before .before .before .before .args .n) _ (c .before .right-length .result) (c .slots-match .result)
-    (rule-slots (c .before .before .before .before .before .before .before .args .words .now) (c .before .before .before .before .before .before .before .args .offsets .now) (c .before .before .before .before .before .before .before .args .t .now) (c .before .before .before .before .before .before .before .args .n) (c .before .before .before .before .word .result) _ (c .before .right-length .result) (c .before .before .before .before .before .before .before .pre .0) (c .before .before .before .before .before .before .before .pre .1 .1) (c .before .before .before .before .word .ensures .0)
-    (c .before .before .before .if1 .taken) (below-of-known (c .before .before .before .before .before .before .before .args .words .now) (c .before .before .before .before .before .before .before .args .t .now) (c .before .before .before .before .before .before .before .args .n) (c .before .before .before .before .word .result) (c .before .before .before .before .before .before .before .pre .1 .0) (c .before .before .before .before .before .before .before .pre .1 .1) (c .before .before .before .before .word .ensures .0) (c .before .before .before .if1 .taken)) refl (c .before .right-length .ensures .0)) (c .slots-match .ensures)
+returns c =
+    children-rule _ _ _ _ _ _ (rule-slots _ _ _ _ _ _ _ (c .before .before .before .before .before .before .before .pre .0) (c .before
+    .before .before .before .before .before .before .pre .1 .1) (c .before .before .before .before .word .ensures .0) (c .before .before
+    .before .if1 .taken) (below-of-known _ _ _ _ (c .before .before .before .before .before .before .before .pre .1 .0) (c .before .before
+    .before .before .before .before .before .pre .1 .1) (c .before .before .before .before .word .ensures .0) (c .before .before .before
+    .if1 .taken)) refl (c .before .right-length .ensures .0)) (c .slots-match .ensures)
 
 returns-2 : tie.Need-returns-2
 returns-2 c = search children-terminal

@@ -27,9 +27,8 @@ used-slots-requires c κs =
     (c .before .before .before .before .before .pre .0, counted-known (c .before .before .before .before .before .args .words .now) (c .before .before .before .before .before .args .t .now) (c .before .before .loop .named) (c .before .before .loop .n) (c .before .before .loop .inv) (omega arith))
 
 name-children-requires : tie.Need-name-children-requires Inv-loop μ-loop
-name-children-requires c κs = 
-    counted-naming (c .before .before .before .before .before .before .args .words .now) (c .before .before .before .before .before .before .args .t .now) (c .before .before .before .loop .named) (c .before .before .before .loop .n) (c .used-slots .result) (c .before .before .before .loop .inv) (omega arith) (c .used-slots .ensures .0)
-    (c .used-slots .ensures .1)
+name-children-requires c κs =
+    counted-naming _ _ _ _ _ (c .before .before .before .loop .inv) (omega arith) (c .used-slots .ensures .0) (c .used-slots .ensures .1)
 
 add-n : tie.Need-add-n Inv-loop μ-loop
 add-n c = search needs
@@ -38,13 +37,12 @@ loop-less : tie.Need-loop-less Inv-loop μ-loop
 loop-less c = search needs
 
 loop-again : tie.Need-loop-again Inv-loop μ-loop
-loop-again c = 
-    counted-turn (c .before .before .before .before .before .before .before .before .args .words .now) (c .before .before .before .before .before .before .before .before .args .t .now) (c .before .before .before .before .before .loop .named) (c .before .before .before .before .before .loop .n) (c .before .before .used-slots .result) _ (c .before .before .before .before .before .loop .inv) (omega arith)
-    (c .before .before .used-slots .ensures .0) (c .before .before .used-slots .ensures .1) (c .before .name-children .ensures)
+loop-again c =
+    counted-turn _ _ _ _ _ _ (c .before .before .before .before .before .loop .inv) (omega arith) (c .before .before .used-slots .ensures
+    .0) (c .before .before .used-slots .ensures .1) (c .before .name-children .ensures)
 
 returns : tie.Need-returns Inv-loop μ-loop
-returns c = 
-    counted-finish (c .before .before .before .before .args .words .now) (c .before .before .before .before .args .t .now) (c .before .loop .named) (c .before .loop .n) (c .before .before .before .before .args .nodes) (c .before .loop .inv) (c .before .before .before .before .pre .1 .1) (omega arith)
+returns c = counted-finish _ _ _ _ _ (c .before .loop .inv) (c .before .before .before .before .pre .1 .1) (omega arith)
 
 pub count-names-spec : {M : Type 1} → statement M
 count-names-spec =

@@ -37,15 +37,7 @@ slice-read-named : tie.Need-slice-read-named Inv-loop μ-loop
 slice-read-named c = search (named-inside, needs)
 
 add-named : tie.Need-add-named Inv-loop μ-loop
-add-named c = 
-    record {
-        fits =
-            named-fits (c .before .before .before .before .before .before .args .named .now) (c .before .before .before .before .before
-            .before .args .t .now) (c .before .before .before .before .before .before .args .n) (c .before .before .before .before .before
-            .before .args .used) (c .before .before .before .loop .named) (c .before .before .before .loop .i) (c .before .word .result) (c
-            .before .before .before .loop .inv) (omega arith)
-            (c .before .word .ensures .0)
-    }
+add-named c = record { fits = named-fits _ _ _ _ _ _ _ (c .before .before .before .loop .inv) (omega arith) (c .before .word .ensures .0) }
 
 mul-named-2 : tie.Need-mul-named-2 Inv-loop μ-loop
 mul-named-2 c = search needs

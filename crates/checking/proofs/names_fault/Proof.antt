@@ -29,9 +29,9 @@ named-once-requires : tie.Need-named-once-requires Inv-loop μ-loop
 named-once-requires c κs = search needs
 
 returns : tie.Need-returns Inv-loop μ-loop
-returns c = 
-    each-stop (c .before .before .before .before .args .nodes) (c .before .before .before .loop .n) (λ m. namedFault (c .before .before .before .before .args .named .now) m) (Refused (NotOneParent (c .before .before .before .loop .n))) (NotOneParent (c .before .before .before .loop .n)) (omega arith) (c .before .before .before .loop .inv .1)
-    (named-refused (c .before .before .before .before .args .named .now) (c .before .before .before .loop .n) (c .before .named-once .result) (c .before .named-once .ensures) (not-true (c .before .named-once .result) (c .if1 .taken))) refl
+returns c =
+    each-stop _ _ (λ m. namedFault _ m) (Refused (NotOneParent _)) (NotOneParent _) (omega arith) (c .before .before .before .loop .inv .1)
+    (named-refused _ _ _ (c .before .named-once .ensures) (not-true _ (c .if1 .taken))) refl
 
 add-n : tie.Need-add-n Inv-loop μ-loop
 add-n c = search needs
@@ -40,10 +40,9 @@ loop-less : tie.Need-loop-less Inv-loop μ-loop
 loop-less c = search needs
 
 loop-again : tie.Need-loop-again Inv-loop μ-loop
-loop-again c = 
-    (omega arith,
-    each-more (c .before .before .before .loop .n) (λ m. namedFault (c .before .before .before .before .args .named .now) m) Good (c .before .before .before .loop .inv .1)
-    (named-passed (c .before .before .before .before .args .named .now) (c .before .before .before .loop .n) (c .before .named-once .result) (c .before .named-once .ensures) (not-false (c .before .named-once .result) (c .if1 .left))) refl)
+loop-again c =
+    (omega arith, each-more _ (λ m. namedFault _ m) Good (c .before .before .before .loop .inv .1) (named-passed _ _ _ (c .before
+    .named-once .ensures) (not-false _ (c .if1 .left))) refl)
 
 returns-2 : tie.Need-returns-2 Inv-loop μ-loop
 returns-2 c = search (each-end, arith)

@@ -30,9 +30,9 @@ word-requires-2 : tie.Need-word-requires-2
 word-requires-2 c κs = search needs
 
 returns : tie.Need-returns
-returns c = 
-    symbol-rule (c .before .before .before .before .before .before .args .words .now) (c .before .before .before .before .before .before .args .offsets .now) (c .before .before .before .before .before .before .args .t .now) (c .before .before .before .before .before .before .args .n) (c .before .before .before .word .result) (c .word2 .result) (c .before .before .before .before .before .before .pre .0) (c .before .before .before .word .ensures .0)
-    (c .before .before .if1 .taken) (search known-below) (c .word2 .ensures .0)
+returns c =
+    symbol-rule _ _ _ _ _ _ (c .before .before .before .before .before .before .pre .0) (c .before .before .before .word .ensures .0) (c
+    .before .before .if1 .taken) (search known-below) (c .word2 .ensures .0)
 
 returns-2 : tie.Need-returns-2
 returns-2 c = search symbol-terminal

@@ -31,9 +31,9 @@ right-length-requires : tie.Need-right-length-requires
 right-length-requires c κs = search (offset-fits, known-below)
 
 returns : tie.Need-returns
-returns c = 
-    used-rule (c .before .before .before .before .before .before .args .words .now) (c .before .before .before .before .before .before .args .offsets .now) (c .before .before .before .before .before .before .args .t .now) (c .before .before .before .before .before .before .args .n) (c .before .before .before .word .result) (c .right-length .result) (c .before .before .before .before .before .before .pre .0) (c .before .before .before .word .ensures .0)
-    (c .before .before .if1 .taken) (search known-below) (c .right-length .ensures .0)
+returns c =
+    used-rule _ _ _ _ _ _ (c .before .before .before .before .before .before .pre .0) (c .before .before .before .word .ensures .0) (c
+    .before .before .if1 .taken) (search known-below) (c .right-length .ensures .0)
 
 returns-2 : tie.Need-returns-2
 returns-2 c = (search used-none, omega arith)

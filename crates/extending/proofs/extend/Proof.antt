@@ -23,9 +23,8 @@ word-requires c κs = search needs
 
 loop-holds : tie.Need-loop-holds Inv-loop μ-loop
 loop-holds c =
-    (search needs, extending-start (c .before .before .before .before .args .words .now) (c .before .before .before .before .pre .0) (c
-    .before .before .before .before .args .rows .now) (c .before .before .before .before .pre .1 .1 .1 .0) (c .before .before .before
-    .before .pre .1 .1 .1 .1))
+    (search needs, extending-start _ (c .before .before .before .before .pre .0) _ (c .before .before .before .before .pre .1 .1 .1 .0) (c
+    .before .before .before .before .pre .1 .1 .1 .1))
 
 rule-at-requires : tie.Need-rule-at-requires Inv-loop μ-loop
 rule-at-requires c κs =
@@ -37,37 +36,22 @@ mul-spread c = search needs
 
 occurrence-set-requires : tie.Need-occurrence-set-requires Inv-loop μ-loop
 occurrence-set-requires c κs =
-    let w = (ruled (c .before .before .before .before .before .before .before .before .args .words .now) (c .before .before .before .before
-    .before .before .before .before .pre .0) (c .before .before .before .loop .r) (c .before .rule-at .result) (omega arith) (offset-is (c
-    .before .before .before .before .before .before .before .before .args .words .now) (c .before .before .before .before .before .before
-    .before .before .args .offsets .now) (c .before .before .before .loop .r) (c .before .rule-at .result) (c .before .before .before
-    .before .before .before .before .before .pre .1 .0) (omega arith) (c .before .rule-at .ensures))) in (w .near, w .shaped)
+    let w = (ruled _ (c .before .before .before .before .before .before .before .before .pre .0) _ _ (omega arith) (offset-is _ _ _ _ (c
+    .before .before .before .before .before .before .before .before .pre .1 .0) (omega arith) (c .before .rule-at .ensures))) in (w .near,
+    w .shaped)
 
 spread-requires : tie.Need-spread-requires Inv-loop μ-loop
 spread-requires c κs =
-    (omega (arith, (c .before .before .before .before .before .loop .inv .1 .holds .room)), ((ruled (c .before .before .before .before
-    .before .before .before .before .before .before .args .words .now) (c .before .before .before .before .before .before .before .before
-    .before .before .pre .0) (c .before .before .before .before .before .loop .r) (c .before .before .before .rule-at .result) (omega
-    arith) (offset-is (c .before .before .before .before .before .before .before .before .before .before .args .words .now) (c .before
-    .before .before .before .before .before .before .before .before .before .args .offsets .now) (c .before .before .before .before .before
-    .loop .r) (c .before .before .before .rule-at .result) (c .before .before .before .before .before .before .before .before .before
-    .before .pre .1 .0) (omega arith) (c .before .before .before .rule-at .ensures))), (down-fits (c .before .before .before .before
-    .before .before .before .before .before .before .args .words .now) (c .before .before .before .before .before .before .before .before
-    .before .before .pre .0) (c .before .before .before .before .before .before .before .order .result) (c .before .before .before .before
-    .before .before .before .before .before .before .args .sets .now) (c .before .before .before .before .before .loop .r) (c .before
-    .before .before .rule-at .result) (c .before .occurrence-set .result) (c .before .before .before .before .before .before .before .order
-    .ensures) (c .before .before .before .before .before .before .before .before .before .before .pre .1 .1 .0) (omega arith) (offset-is (c
-    .before .before .before .before .before .before .before .before .before .before .args .words .now) (c .before .before .before .before
-    .before .before .before .before .before .before .args .offsets .now) (c .before .before .before .before .before .loop .r) (c .before
-    .before .before .rule-at .result) (c .before .before .before .before .before .before .before .before .before .before .pre .1 .0) (omega
-    arith) (c .before .before .before .rule-at .ensures)) (c .before .occurrence-set .ensures), kept-at (c .before .before .before .before
-    .before .before .before .before .before .before .args .words .now) _ _ (c .before .before .before .before .before .loop .rows) (c
-    .before .before .before .before .before .loop .r) (c .before .before .before .rule-at .result) (c .before .occurrence-set .result) (c
-    .before .before .before .before .before .loop .inv .1 .holds) (omega arith) (offset-is (c .before .before .before .before .before
-    .before .before .before .before .before .args .words .now) (c .before .before .before .before .before .before .before .before .before
-    .before .args .offsets .now) (c .before .before .before .before .before .loop .r) (c .before .before .before .rule-at .result) (c
-    .before .before .before .before .before .before .before .before .before .before .pre .1 .0) (omega arith) (c .before .before .before
-    .rule-at .ensures)) (c .before .occurrence-set .ensures))))
+    (omega (arith, (c .before .before .before .before .before .loop .inv .1 .holds .room)), ((ruled _ (c .before .before .before .before
+    .before .before .before .before .before .before .pre .0) _ _ (omega arith) (offset-is _ _ _ _ (c .before .before .before .before
+    .before .before .before .before .before .before .pre .1 .0) (omega arith) (c .before .before .before .rule-at .ensures))), (down-fits _
+    (c .before .before .before .before .before .before .before .before .before .before .pre .0) _ _ _ _ _ (c .before .before .before
+    .before .before .before .before .order .ensures) (c .before .before .before .before .before .before .before .before .before .before
+    .pre .1 .1 .0) (omega arith) (offset-is _ _ _ _ (c .before .before .before .before .before .before .before .before .before .before .pre
+    .1 .0) (omega arith) (c .before .before .before .rule-at .ensures)) (c .before .occurrence-set .ensures), kept-at _ _ _ _ _ _ _ (c
+    .before .before .before .before .before .loop .inv .1 .holds) (omega arith) (offset-is _ _ _ _ (c .before .before .before .before
+    .before .before .before .before .before .before .pre .1 .0) (omega arith) (c .before .before .before .rule-at .ensures)) (c .before
+    .occurrence-set .ensures))))
 
 add-r : tie.Need-add-r Inv-loop μ-loop
 add-r c = search needs
@@ -77,30 +61,21 @@ loop-less c = search needs
 
 loop-again : tie.Need-loop-again Inv-loop μ-loop
 loop-again c =
-    (search needs, extending-turn (c .before .before .before .before .before .before .before .before .before .before .before .before
-    .before .args .words .now) (c .before .before .before .before .before .before .before .before .before .before .before .before .before
-    .pre .0) (c .before .before .before .before .before .before .before .before .before .before .before .before .before .args .rows .now)
-    (c .before .before .before .before .before .before .before .before .loop .rows) (c .before .before .before .before .before .before
-    .before .before .loop .r) (c .before .before .before .before .before .before .rule-at .result) (c .before .before .before .before
-    .occurrence-set .result) (c .before .before .before .before .before .before .before .before .before .before .order .result) (c .before
-    .before .before .before .before .before .before .before .before .before .before .before .before .args .sets .now) _ (c .before .before
-    .before .before .before .before .before .before .loop .inv .1) (omega arith) (offset-is (c .before .before .before .before .before
-    .before .before .before .before .before .before .before .before .args .words .now) (c .before .before .before .before .before .before
-    .before .before .before .before .before .before .before .args .offsets .now) (c .before .before .before .before .before .before .before
-    .before .loop .r) (c .before .before .before .before .before .before .rule-at .result) (c .before .before .before .before .before
-    .before .before .before .before .before .before .before .before .pre .1 .0) (omega arith) (c .before .before .before .before .before
-    .before .rule-at .ensures)) (c .before .before .before .before .occurrence-set .ensures) (c .before .before .before .before .before
-    .before .before .before .before .before .order .ensures) (c .before .before .before .before .before .before .before .before .before
-    .before .before .before .before .pre .1 .1 .0) (c .before .before .spread .ensures))
+    (search needs, extending-turn _ (c .before .before .before .before .before .before .before .before .before .before .before .before
+    .before .pre .0) _ _ _ _ _ _ _ _ (c .before .before .before .before .before .before .before .before .loop .inv .1) (omega arith)
+    (offset-is _ _ _ _ (c .before .before .before .before .before .before .before .before .before .before .before .before .before .pre .1
+    .0) (omega arith) (c .before .before .before .before .before .before .rule-at .ensures)) (c .before .before .before .before
+    .occurrence-set .ensures) (c .before .before .before .before .before .before .before .before .before .before .order .ensures) (c
+    .before .before .before .before .before .before .before .before .before .before .before .before .before .pre .1 .1 .0) (c .before
+    .before .spread .ensures))
 
 same-length : tie.Need-same-length Inv-loop μ-loop
 same-length c = search needs
 
 returns : tie.Need-returns Inv-loop μ-loop
 returns c =
-    extending-finish (c .before .before .before .before .before .before .args .words .now) (c .before .before .before .before .before
-    .before .pre .0) (c .before .before .before .before .before .before .args .rows .now) (c .before .loop .rows) (c .before .loop .r) (c
-    .before .before .word .result) (c .before .loop .inv .1) (c .before .before .word .ensures .0) (omega arith)
+    extending-finish _ (c .before .before .before .before .before .before .pre .0) _ _ _ _ (c .before .loop .inv .1) (c .before .before
+    .word .ensures .0) (omega arith)
 
 pub extend-spec : {M : Type 1} → statement M
 extend-spec =

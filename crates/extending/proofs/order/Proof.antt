@@ -33,11 +33,9 @@ attributes-requires c κs =
 
 descents-requires : tie.Need-descents-requires Inv-loop μ-loop
 descents-requires c κs =
-    (omega (arith, few-symbols (c .before .before .before .before .before .args .words .now) (c .before .before .before .before .before
-    .pre) (c .before .before .before .word .result) (c .before .before .before .word .ensures .0)), few-attributes (c .before .before
-    .before .before .before .args .words .now) (c .before .before .before .before .before .pre) (c .before .before .before .word .result)
-    (c .before .before .loop .x) (c .attributes .result) (c .before .before .before .word .ensures .0) (omega arith) (c .attributes
-    .ensures .0))
+    (omega (arith, few-symbols _ (c .before .before .before .before .before .pre) _ (c .before .before .before .word .ensures .0)),
+    few-attributes _ (c .before .before .before .before .before .pre) _ _ _ (c .before .before .before .word .ensures .0) (omega arith) (c
+    .attributes .ensures .0))
 
 mul-arcs : tie.Need-mul-arcs Inv-loop μ-loop
 mul-arcs c = search needs
@@ -55,17 +53,12 @@ loop-less c = search needs
 
 loop-again : tie.Need-loop-again Inv-loop μ-loop
 loop-again c =
-    (search needs, order-turn (c .before .before .before .before .before .before .args .words .now) (c .before .before .before .before
-    .before .before .args .sets .now) (c .before .before .before .loop .arcs) (c .before .before .before .loop .x) (c .before .attributes
-    .result) (c .descents .result) (c .before .before .before .loop .inv .1) (omega (arith, few-symbols (c .before .before .before .before
-    .before .before .args .words .now) (c .before .before .before .before .before .before .pre) (c .before .before .before .before .word
-    .result) (c .before .before .before .before .word .ensures .0))) (c .before .attributes .ensures .0) (c .descents .ensures))
+    (search needs, order-turn _ _ _ _ _ _ (c .before .before .before .loop .inv .1) (omega (arith, few-symbols _ (c .before .before .before
+    .before .before .before .pre) _ (c .before .before .before .before .word .ensures .0))) (c .before .attributes .ensures .0) (c
+    .descents .ensures))
 
 returns : tie.Need-returns Inv-loop μ-loop
-returns c =
-    order-end (c .before .before .before .before .args .words .now) (c .before .before .before .before .args .sets .now) (c .before .loop
-    .arcs) (c .before .loop .x) (c .before .before .word .result) (c .before .loop .inv .1) (c .before .before .word .ensures .0) (omega
-    arith) (omega arith)
+returns c = order-end _ _ _ _ _ (c .before .loop .inv .1) (c .before .before .word .ensures .0) (omega arith) (omega arith)
 
 pub order-spec : {M : Type 1} → statement M
 order-spec =

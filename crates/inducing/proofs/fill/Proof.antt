@@ -32,32 +32,18 @@ mul-fill-rule c = search needs
 
 occurrence-set-requires : tie.Need-occurrence-set-requires Inv-loop μ-loop
 occurrence-set-requires c κs =
-    let w = (ruled (c .before .before .before .before .before .before .before .args .words .now) (c .before .before .before .before .before
-    .before .before .pre .0) (c .before .before .before .loop .r) (c .before .rule-at .result) (omega arith) (offset-is (c .before .before
-    .before .before .before .before .before .args .words .now) (c .before .before .before .before .before .before .before .args .offsets
-    .now) (c .before .before .before .loop .r) (c .before .rule-at .result) (c .before .before .before .before .before .before .before .pre
-    .1 .0) (omega arith) (c .before .rule-at .ensures))) in (w .near, w .shaped)
+    let w = (ruled _ (c .before .before .before .before .before .before .before .pre .0) _ _ (omega arith) (offset-is _ _ _ _ (c .before
+    .before .before .before .before .before .before .pre .1 .0) (omega arith) (c .before .rule-at .ensures))) in (w .near, w .shaped)
 
 fill-rule-requires : tie.Need-fill-rule-requires Inv-loop μ-loop
 fill-rule-requires c κs =
-    let w = (ruled (c .before .before .before .before .before .before .before .before .args .words .now) (c .before .before .before .before
-    .before .before .before .before .pre .0) (c .before .before .before .before .loop .r) (c .before .before .rule-at .result) (omega
-    arith) (offset-is (c .before .before .before .before .before .before .before .before .args .words .now) (c .before .before .before
-    .before .before .before .before .before .args .offsets .now) (c .before .before .before .before .loop .r) (c .before .before .rule-at
-    .result) (c .before .before .before .before .before .before .before .before .pre .1 .0) (omega arith) (c .before .before .rule-at
-    .ensures))) in ((w .near, w .few, omega (arith, (c .before .before .before .before .loop .inv .1 .holds .room))), (functions-fit (c
-    .before .before .before .before .before .before .before .before .args .words .now) (c .before .before .before .before .before .before
-    .before .before .pre .0) (c .before .before .before .before .loop .r) (c .before .before .rule-at .result) (c .occurrence-set .result)
-    (omega arith) (offset-is (c .before .before .before .before .before .before .before .before .args .words .now) (c .before .before
-    .before .before .before .before .before .before .args .offsets .now) (c .before .before .before .before .loop .r) (c .before .before
-    .rule-at .result) (c .before .before .before .before .before .before .before .before .pre .1 .0) (omega arith) (c .before .before
-    .rule-at .ensures)) (c .occurrence-set .ensures), kept-at (c .before .before .before .before .before .before .before .before .args
-    .words .now) _ _ (c .before .before .before .before .loop .rows) (c .before .before .before .before .loop .r) (c .before .before
-    .rule-at .result) (c .occurrence-set .result) (c .before .before .before .before .loop .inv .1 .holds) (omega arith) (offset-is (c
-    .before .before .before .before .before .before .before .before .args .words .now) (c .before .before .before .before .before .before
-    .before .before .args .offsets .now) (c .before .before .before .before .loop .r) (c .before .before .rule-at .result) (c .before
-    .before .before .before .before .before .before .before .pre .1 .0) (omega arith) (c .before .before .rule-at .ensures)) (c
-    .occurrence-set .ensures)))
+    let w = (ruled _ (c .before .before .before .before .before .before .before .before .pre .0) _ _ (omega arith) (offset-is _ _ _ _ (c
+    .before .before .before .before .before .before .before .before .pre .1 .0) (omega arith) (c .before .before .rule-at .ensures))) in
+    ((w .near, w .few, omega (arith, (c .before .before .before .before .loop .inv .1 .holds .room))), (functions-fit _ (c .before .before
+    .before .before .before .before .before .before .pre .0) _ _ _ (omega arith) (offset-is _ _ _ _ (c .before .before .before .before
+    .before .before .before .before .pre .1 .0) (omega arith) (c .before .before .rule-at .ensures)) (c .occurrence-set .ensures), kept-at
+    _ _ _ _ _ _ _ (c .before .before .before .before .loop .inv .1 .holds) (omega arith) (offset-is _ _ _ _ (c .before .before .before
+    .before .before .before .before .before .pre .1 .0) (omega arith) (c .before .before .rule-at .ensures)) (c .occurrence-set .ensures)))
 
 add-r : tie.Need-add-r Inv-loop μ-loop
 add-r c = search needs
@@ -67,26 +53,18 @@ loop-less c = search needs
 
 loop-again : tie.Need-loop-again Inv-loop μ-loop
 loop-again c =
-    (search needs, filling-turn (c .before .before .before .before .before .before .before .before .before .before .before .args .words
-    .now) (c .before .before .before .before .before .before .before .before .before .before .before .pre .0) (c .before .before .before
-    .before .before .before .before .before .before .before .before .args .rows .now) (c .before .before .before .before .before .before
-    .before .loop .rows) (c .before .before .before .before .before .before .before .loop .r) (c .before .before .before .before .before
-    .rule-at .result) (c .before .before .before .occurrence-set .result) _ (c .before .before .before .before .before .before .before
-    .loop .inv .1) (omega arith) (offset-is (c .before .before .before .before .before .before .before .before .before .before .before
-    .args .words .now) (c .before .before .before .before .before .before .before .before .before .before .before .args .offsets .now) (c
-    .before .before .before .before .before .before .before .loop .r) (c .before .before .before .before .before .rule-at .result) (c
-    .before .before .before .before .before .before .before .before .before .before .before .pre .1 .0) (omega arith) (c .before .before
-    .before .before .before .rule-at .ensures)) (c .before .before .before .occurrence-set .ensures) (c .before .before .fill-rule
-    .ensures))
+    (search needs, filling-turn _ (c .before .before .before .before .before .before .before .before .before .before .before .pre .0) _ _ _
+    _ _ _ (c .before .before .before .before .before .before .before .loop .inv .1) (omega arith) (offset-is _ _ _ _ (c .before .before
+    .before .before .before .before .before .before .before .before .before .pre .1 .0) (omega arith) (c .before .before .before .before
+    .before .rule-at .ensures)) (c .before .before .before .occurrence-set .ensures) (c .before .before .fill-rule .ensures))
 
 same-length : tie.Need-same-length Inv-loop μ-loop
 same-length c = search needs
 
 returns : tie.Need-returns Inv-loop μ-loop
 returns c =
-    filling-finish (c .before .before .before .before .before .args .words .now) (c .before .before .before .before .before .pre .0) (c
-    .before .before .before .before .before .args .rows .now) (c .before .loop .rows) (c .before .loop .r) (c .before .before .word
-    .result) (c .before .loop .inv .1) (c .before .before .word .ensures .0) (omega arith)
+    filling-finish _ (c .before .before .before .before .before .pre .0) _ _ _ _ (c .before .loop .inv .1) (c .before .before .word
+    .ensures .0) (omega arith)
 
 pub fill-spec : {M : Type 1} → statement M
 fill-spec =

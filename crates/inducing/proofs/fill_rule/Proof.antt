@@ -28,11 +28,9 @@ loop-holds c = (search needs, search needs, search needs, search rule-start)
 
 fill-function-requires : tie.Need-fill-function-requires Inv-loop μ-loop
 fill-function-requires c κs =
-    ((search needs, (c .before .before .loop .inv .3 .kept .room)), (function-fits (c .before .before .before .before .before .before
-    .before .args .words .now) (c .before .before .before .before .before .before .before .args .p) (c .before .before .before .before
-    .before .before .before .args .among) (c .before .before .loop .k) (c .before .before .before .before .function-count .result) (c
-    .before .before .loop .f) (c .before .before .before .before .before .before .before .pre .1 .0) (omega arith) (c .before .before
-    .before .before .function-count .ensures .0) (c .before .before .loop .inv .1), (c .before .before .loop .inv .3 .kept)))
+    ((search needs, (c .before .before .loop .inv .3 .kept .room)), (function-fits _ _ _ _ _ _ (c .before .before .before .before .before
+    .before .before .pre .1 .0) (omega arith) (c .before .before .before .before .function-count .ensures .0) (c .before .before .loop .inv
+    .1), (c .before .before .loop .inv .3 .kept)))
 
 next-function-requires : tie.Need-next-function-requires Inv-loop μ-loop
 next-function-requires c κs = search needs
@@ -45,16 +43,10 @@ loop-less c = search needs
 
 loop-again : tie.Need-loop-again Inv-loop μ-loop
 loop-again c =
-    (search needs, search next-place, search needs, rule-turn (c .before .before .before .before .before .before .before .before .before
-    .before .before .args .rows .now) (c .before .before .before .before .before .before .before .before .before .before .before .args
-    .base) (c .before .before .before .before .before .before .before .before .before .before .before .args .among) (c .before .before
-    .before .before .before .before .before .before .before .before .before .args .words .now) (c .before .before .before .before .before
-    .before .before .before .before .before .before .args .p) (c .before .before .before .before .before .before .loop .rows) (c .before
-    .before .before .before .before .before .loop .k) (c .before .before .before .before .before .before .before .before .function-count
-    .result) (c .before .before .before .before .before .before .loop .f) _ (c .before .before .before .before .before .before .loop .inv
-    .3) (search needs) (c .before .before .before .before .before .before .before .before .before .before .before .pre .1 .0) (omega arith)
-    (c .before .before .before .before .before .before .before .before .function-count .ensures .0) (c .before .before .before .before
-    .before .before .loop .inv .1) (c .before .before .before .fill-function .ensures))
+    (search needs, search next-place, search needs, rule-turn _ _ _ _ _ _ _ _ _ _ (c .before .before .before .before .before .before .loop
+    .inv .3) (search needs) (c .before .before .before .before .before .before .before .before .before .before .before .pre .1 .0) (omega
+    arith) (c .before .before .before .before .before .before .before .before .function-count .ensures .0) (c .before .before .before
+    .before .before .before .loop .inv .1) (c .before .before .before .fill-function .ensures))
 
 same-length : tie.Need-same-length Inv-loop μ-loop
 same-length c = search needs

@@ -51,9 +51,8 @@ loop-less c = search needs
 
 loop-again : tie.Need-loop-again Inv-loop μ-loop Inv-search μ-search
 loop-again c =
-    (search needs, (c .before .before .before .before .loop .inv .1), row-passed (c .before .before .before .before .before .before .before
-    .before .args .rows .now) (c .before .before .before .before .before .before .search .r) (c .before .before .before .before .loop .o)
-    (c .before .has .result) (c .before .before .before .before .loop .inv .2) (c .before .has .ensures) (c .if1 .left))
+    (search needs, (c .before .before .before .before .loop .inv .1), row-passed _ (c .before .before .before .before .before .before
+    .search .r) _ _ (c .before .before .before .before .loop .inv .2) (c .before .has .ensures) (c .if1 .left))
 
 add-r : tie.Need-add-r Inv-loop μ-loop Inv-search μ-search
 add-r c = search needs
@@ -73,10 +72,9 @@ returns c =
 
 returns-2 : tie.Need-returns-2 Inv-loop μ-loop Inv-search μ-search
 returns-2 c =
-    search-found (c .before .before .before .before .before .before .before .before .args .rows .now) (c .before .before .before .before
-    .before .before .before .before .args .rules) (c .before .before .before .before .before .before .search .r) (c .before .before .before
-    .before .loop .o) (c .before .has .result) (omega arith) (omega arith) (c .before .before .before .before .before .before .search .inv
-    .2) (c .before .before .before .before .loop .inv .2) (c .before .has .ensures) (c .if1 .taken)
+    search-found _ _ (c .before .before .before .before .before .before .search .r) _ _ (omega arith) (omega arith) (c .before .before
+    .before .before .before .before .search .inv .2) (c .before .before .before .before .loop .inv .2) (c .before .has .ensures) (c .if1
+    .taken)
 
 pub find-cycle-spec : {M : Type 1} → statement M
 find-cycle-spec =

@@ -30,24 +30,18 @@ attributes-requires c κs = search needs
 
 arcs-at-requires : tie.Need-arcs-at-requires Inv-loop μ-loop
 arcs-at-requires c κs =
-    (search needs, position-small (c .before .before .before .before .before .before .before .args .words .now) (c .before .before .before
-    .before .before .before .before .args .p) (c .before .before .before .before .before .before .before .pre .1) (c .before .before
-    .before .before .right-length .result) (c .before .before .before .loop .i) (c .before .symbol-of .result) (c .before .before .before
-    .before .right-length .ensures .0) (omega arith) (c .before .symbol-of .ensures .0), count-small (c .before .before .before .before
-    .before .before .before .args .words .now) (c .before .before .before .before .before .before .before .args .p) (c .before .before
-    .before .before .before .before .before .pre .1) (c .before .before .before .before .right-length .result) (c .before .before .before
-    .loop .i) (c .before .symbol-of .result) (c .before .before .before .before .right-length .ensures .0) (omega arith) (c .before
-    .symbol-of .ensures .0) (c .attributes .result) (c .attributes .ensures .0))
+    (search needs, position-small _ _ (c .before .before .before .before .before .before .before .pre .1) _ _ _ (c .before .before .before
+    .before .right-length .ensures .0) (omega arith) (c .before .symbol-of .ensures .0), count-small _ _ (c .before .before .before .before
+    .before .before .before .pre .1) _ _ _ (c .before .before .before .before .right-length .ensures .0) (omega arith) (c .before
+    .symbol-of .ensures .0) _ (c .attributes .ensures .0))
 
 mul-union : tie.Need-mul-union Inv-loop μ-loop
 mul-union c = search needs
 
 element-copy-out-union : tie.Need-element-copy-out-union Inv-loop μ-loop
 element-copy-out-union c =
-    symbol-small (c .before .before .before .before .before .before .before .before .args .words .now) (c .before .before .before .before
-    .before .before .before .before .args .p) (c .before .before .before .before .before .before .before .before .pre .1) (c .before
-    .before .before .before .before .right-length .result) (c .before .before .before .before .loop .i) (c .before .before .symbol-of
-    .result) (c .before .before .before .before .before .right-length .ensures .0) (omega arith) (c .before .before .symbol-of .ensures .0)
+    symbol-small _ _ (c .before .before .before .before .before .before .before .before .pre .1) _ _ _ (c .before .before .before .before
+    .before .right-length .ensures .0) (omega arith) (c .before .before .symbol-of .ensures .0)
 
 union-requires : tie.Need-union-requires Inv-loop μ-loop
 union-requires c κs = search needs
@@ -57,11 +51,9 @@ mul-ids c = search needs
 
 element-write-ids : tie.Need-element-write-ids Inv-loop μ-loop
 element-write-ids c =
-    symbol-small (c .before .before .before .before .before .before .before .before .before .before .args .words .now) (c .before .before
-    .before .before .before .before .before .before .before .before .args .p) (c .before .before .before .before .before .before .before
-    .before .before .before .pre .1) (c .before .before .before .before .before .before .before .right-length .result) (c .before .before
-    .before .before .before .before .loop .i) (c .before .before .before .before .symbol-of .result) (c .before .before .before .before
-    .before .before .before .right-length .ensures .0) (omega arith) (c .before .before .before .before .symbol-of .ensures .0)
+    symbol-small _ _ (c .before .before .before .before .before .before .before .before .before .before .pre .1) _ _ _ (c .before .before
+    .before .before .before .before .before .right-length .ensures .0) (omega arith) (c .before .before .before .before .symbol-of .ensures
+    .0)
 
 add-i : tie.Need-add-i Inv-loop μ-loop
 add-i c = search needs
@@ -71,21 +63,12 @@ loop-less c = search needs
 
 loop-again : tie.Need-loop-again Inv-loop μ-loop
 loop-again c =
-    (search needs, gather-turn (c .before .before .before .before .before .before .before .before .before .before .args .words .now) (c
-    .before .before .before .before .before .before .before .before .before .before .args .p) (c .before .before .before .before .before
-    .before .before .before .before .before .args .rows .now) (c .before .before .before .before .before .before .before .before .before
-    .before .args .base) (c .before .before .before .before .before .before .before .before .before .before .args .ids .now) (c .before
-    .before .before .before .before .before .loop .ids) (c .before .before .before .before .before .before .loop .i) (c .before .before
-    .before .before .symbol-of .result) (c .before .before .before .attributes .result) (c .before .before .arcs-at .result) (c .union
-    .result) (c .before .before .before .before .before .before .loop .inv .1) (omega (arith, (c .before .before .before .before .before
-    .before .loop .inv .1 .size), (c .before .before .before .before .before .before .before .before .before .before .pre .0 .1),
-    symbol-small (c .before .before .before .before .before .before .before .before .before .before .args .words .now) (c .before .before
-    .before .before .before .before .before .before .before .before .args .p) (c .before .before .before .before .before .before .before
-    .before .before .before .pre .1) (c .before .before .before .before .before .before .before .right-length .result) (c .before .before
-    .before .before .before .before .loop .i) (c .before .before .before .before .symbol-of .result) (c .before .before .before .before
-    .before .before .before .right-length .ensures .0) (omega arith) (c .before .before .before .before .symbol-of .ensures .0))) (c
-    .before .before .before .before .symbol-of .ensures .0) (c .before .before .before .attributes .ensures .0) (c .before .before .arcs-at
-    .ensures) (c .union .ensures))
+    (search needs, gather-turn _ _ _ _ _ _ _ _ _ _ _ (c .before .before .before .before .before .before .loop .inv .1) (omega (arith, (c
+    .before .before .before .before .before .before .loop .inv .1 .size), (c .before .before .before .before .before .before .before
+    .before .before .before .pre .0 .1), symbol-small _ _ (c .before .before .before .before .before .before .before .before .before
+    .before .pre .1) _ _ _ (c .before .before .before .before .before .before .before .right-length .ensures .0) (omega arith) (c .before
+    .before .before .before .symbol-of .ensures .0))) (c .before .before .before .before .symbol-of .ensures .0) (c .before .before .before
+    .attributes .ensures .0) (c .before .before .arcs-at .ensures) (c .union .ensures))
 
 returns : tie.Need-returns Inv-loop μ-loop
 returns c = search gather-finish

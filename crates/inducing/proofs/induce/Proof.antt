@@ -42,9 +42,8 @@ round-requires : tie.Need-round-requires Inv-loop μ-loop
 round-requires c κs =
     ((c .before .before .before .before .before .before .before .before .before .before .before .before .before .before .pre .0), ((c
     .before .before .before .before .before .before .before .before .before .before .before .before .before .before .pre .1 .0),
-    standing-here (c .before .before .before .before .before .before .before .before .before .before .before .before .before .before .args
-    .words .now) (c .before .before .before .before .before .before .before .before .before .before .before .before .before .before .pre
-    .0) _ (c .before .before .loop .rows) (c .before .before .loop .ids) (c .before .before .loop .inv)))
+    standing-here _ (c .before .before .before .before .before .before .before .before .before .before .before .before .before .before .pre
+    .0) _ _ _ (c .before .before .loop .inv)))
 
 same-requires : tie.Need-same-requires Inv-loop μ-loop
 same-requires c κs = search needs
@@ -98,21 +97,15 @@ returns c =
 
 loop-less : tie.Need-loop-less Inv-loop μ-loop
 loop-less c =
-    fewer-left (c .before .before .before .before .before .before .before .before .before .before .before .before .before .before .before
-    .before .before .before .before .before .before .args .words .now) (c .before .before .before .before .before .before .before .before
-    .before .before .before .before .before .before .before .before .before .before .before .before .before .pre .0) (c .before .before
-    .before .before .before .before .before .before .before .loop .rows) (c .before .before .before .before .before .before .before .before
-    .before .loop .ids) _ _ (c .before .same .result) (c .before .before .before .before .before .before .before .before .before .loop .inv
-    .arcs) (c .before .before .before .before .before .before .round .ensures) (c .before .same .ensures) (c .if1 .left)
+    fewer-left _ (c .before .before .before .before .before .before .before .before .before .before .before .before .before .before .before
+    .before .before .before .before .before .before .pre .0) _ _ _ _ _ (c .before .before .before .before .before .before .before .before
+    .before .loop .inv .arcs) (c .before .before .before .before .before .before .round .ensures) (c .before .same .ensures) (c .if1 .left)
 
 loop-again : tie.Need-loop-again Inv-loop μ-loop
 loop-again c =
-    standing-turn (c .before .before .before .before .before .before .before .before .before .before .before .before .before .before
-    .before .before .before .before .before .before .before .args .words .now) (c .before .before .before .before .before .before .before
-    .before .before .before .before .before .before .before .before .before .before .before .before .before .before .pre .0) _ (c .before
-    .before .before .before .before .before .before .before .before .loop .rows) (c .before .before .before .before .before .before .before
-    .before .before .loop .ids) _ _ (c .before .before .before .before .before .before .before .before .before .loop .inv) (c .before
-    .before .before .before .before .before .round .ensures)
+    standing-turn _ (c .before .before .before .before .before .before .before .before .before .before .before .before .before .before
+    .before .before .before .before .before .before .before .pre .0) _ _ _ _ _ (c .before .before .before .before .before .before .before
+    .before .before .loop .inv) (c .before .before .before .before .before .before .round .ensures)
 
 pub induce-spec : {M : Type 1} → statement M
 induce-spec =

@@ -33,11 +33,8 @@ mul-spread c = search needs
 
 occurrence-set-requires : tie.Need-occurrence-set-requires Inv-loop μ-loop
 occurrence-set-requires c κs =
-    let w = (ruled (c .before .before .before .before .before .before .before .args .words .now) (c .before .before .before .before .before
-    .before .before .pre .0) (c .before .before .before .loop .r) (c .before .rule-at .result) (omega arith) (offset-is (c .before .before
-    .before .before .before .before .before .args .words .now) (c .before .before .before .before .before .before .before .args .offsets
-    .now) (c .before .before .before .loop .r) (c .before .rule-at .result) (c .before .before .before .before .before .before .before .pre
-    .1 .0) (omega arith) (c .before .rule-at .ensures))) in (w .near, w .shaped)
+    let w = (ruled _ (c .before .before .before .before .before .before .before .pre .0) _ _ (omega arith) (offset-is _ _ _ _ (c .before
+    .before .before .before .before .before .before .pre .1 .0) (omega arith) (c .before .rule-at .ensures))) in (w .near, w .shaped)
 
 spread-requires : tie.Need-spread-requires Inv-loop μ-loop
 spread-requires c κs =
@@ -69,15 +66,10 @@ mul-gather c = search needs
 gather-requires : tie.Need-gather-requires Inv-loop μ-loop
 gather-requires c κs =
     (((c .before .before .before .before .spread .ensures .kept .room), (c .before .before .before .before .before .before .before .before
-    .before .before .loop .inv .1 .standing .sized)), (ruled (c .before .before .before .before .before .before .before .before .before
-    .before .before .before .before .before .args .words .now) (c .before .before .before .before .before .before .before .before .before
-    .before .before .before .before .before .pre .0) (c .before .before .before .before .before .before .before .before .before .before
-    .loop .r) (c .before .before .before .before .before .before .before .before .rule-at .result) (omega arith) (offset-is (c .before
-    .before .before .before .before .before .before .before .before .before .before .before .before .before .args .words .now) (c .before
-    .before .before .before .before .before .before .before .before .before .before .before .before .before .args .offsets .now) (c .before
-    .before .before .before .before .before .before .before .before .before .loop .r) (c .before .before .before .before .before .before
-    .before .before .rule-at .result) (c .before .before .before .before .before .before .before .before .before .before .before .before
-    .before .before .pre .1 .0) (omega arith) (c .before .before .before .before .before .before .before .before .rule-at .ensures))))
+    .before .before .loop .inv .1 .standing .sized)), (ruled _ (c .before .before .before .before .before .before .before .before .before
+    .before .before .before .before .before .pre .0) _ _ (omega arith) (offset-is _ _ _ _ (c .before .before .before .before .before
+    .before .before .before .before .before .before .before .before .before .pre .1 .0) (omega arith) (c .before .before .before .before
+    .before .before .before .before .rule-at .ensures))))
 
 add-r : tie.Need-add-r Inv-loop μ-loop
 add-r c = search needs
@@ -87,31 +79,18 @@ loop-less c = search needs
 
 loop-again : tie.Need-loop-again Inv-loop μ-loop
 loop-again c =
-    (search needs, turned-turn (c .before .before .before .before .before .before .before .before .before .before .before .before .before
-    .before .before .args .words .now) (c .before .before .before .before .before .before .before .before .before .before .before .before
-    .before .before .before .pre .0) (c .before .before .before .before .before .before .before .before .before .before .before .before
-    .before .before .before .args .rows .now) (c .before .before .before .before .before .before .before .before .before .before .before
-    .before .before .before .before .args .ids .now) (c .before .before .before .before .before .before .before .before .before .before
-    .before .loop .rows) (c .before .before .before .before .before .before .before .before .before .before .before .loop .ids) (c .before
-    .before .before .before .before .before .before .before .before .before .before .loop .r) (c .before .before .before .before .before
-    .before .before .before .before .rule-at .result) (c .before .before .before .before .before .before .before .occurrence-set .result) _
-    _ (c .before .before .before .before .before .before .before .before .before .before .before .loop .inv .1) (omega arith) (offset-is (c
-    .before .before .before .before .before .before .before .before .before .before .before .before .before .before .before .args .words
-    .now) (c .before .before .before .before .before .before .before .before .before .before .before .before .before .before .before .args
-    .offsets .now) (c .before .before .before .before .before .before .before .before .before .before .before .loop .r) (c .before .before
-    .before .before .before .before .before .before .before .rule-at .result) (c .before .before .before .before .before .before .before
-    .before .before .before .before .before .before .before .before .pre .1 .0) (omega arith) (c .before .before .before .before .before
-    .before .before .before .before .rule-at .ensures)) (c .before .before .before .before .before .before .before .occurrence-set
-    .ensures) (c .before .before .before .before .before .spread .ensures) (c .gather .ensures))
+    (search needs, turned-turn _ (c .before .before .before .before .before .before .before .before .before .before .before .before .before
+    .before .before .pre .0) _ _ _ _ _ _ _ _ _ (c .before .before .before .before .before .before .before .before .before .before .before
+    .loop .inv .1) (omega arith) (offset-is _ _ _ _ (c .before .before .before .before .before .before .before .before .before .before
+    .before .before .before .before .before .pre .1 .0) (omega arith) (c .before .before .before .before .before .before .before .before
+    .before .rule-at .ensures)) (c .before .before .before .before .before .before .before .occurrence-set .ensures) (c .before .before
+    .before .before .before .spread .ensures) (c .gather .ensures))
 
 same-length : tie.Need-same-length Inv-loop μ-loop
 same-length c = search needs
 
 returns : tie.Need-returns Inv-loop μ-loop
-returns c =
-    turned-finish (c .before .before .before .before .before .args .words .now) (c .before .before .before .before .before .args .rows
-    .now) (c .before .before .before .before .before .args .ids .now) (c .before .loop .r) (c .before .before .word .result) (c .before
-    .loop .rows) (c .before .loop .ids) (c .before .loop .inv .1) (omega arith) (omega arith) (c .before .before .word .ensures .0)
+returns c = turned-finish _ _ _ _ _ _ _ (c .before .loop .inv .1) (omega arith) (omega arith) (c .before .before .word .ensures .0)
 
 pub round-spec : {M : Type 1} → statement M
 round-spec =

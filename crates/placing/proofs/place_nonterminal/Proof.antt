@@ -31,24 +31,20 @@ mask-requires : tie.Need-mask-requires
 mask-requires c κs = search needs
 
 place-symbol-requires : tie.Need-place-symbol-requires
-place-symbol-requires c κs = 
-    let few : c .before .before .before .attributes .result ≤ 8 =
-        omega (arith, c .before .before .before .before .before .before .before .before .pre .0 .attributesFit, c .before .before .before
-        .attributes .ensures .0) in
-    (omega arith, below-fits (c .before .before .before .attributes .result) (c .before .before .below .result) few (c .before .before .below .ensures))
+place-symbol-requires c κs =
+    let few : c .before .before .before .attributes .result ≤ 8 = omega (arith, c .before .before .before .before .before .before .before
+    .before .pre .0 .attributesFit, c .before .before .before .attributes .ensures .0) in (omega arith, below-fits _ _ few (c .before
+    .before .below .ensures))
 
 same-length : tie.Need-same-length
 same-length c = search needs
 
 returns : tie.Need-returns
-returns c = 
-    nonterminal-placed (c .before .before .before .before .before .before .before .before .before .before .before .args .words .now) (c .before .before .before .before .before .before .before .before .before .before .before .args .x) (c .before .before .before .before .before .before .before .before .before .before .before .args .arcs) (c .before .before .before .before .before .below .result)
-    (c .before .before .before .mask .result) (c .before .before .before .before .before .before .before .before .before .before .before .args .sets .now) (c .before .before .place-symbol .last .0)
-    (c .before .before .before .before .before .before .before .before .nonterminal .result)
-    (c .before .before .before .before .before .before .before .before .nonterminal .ensures)
-    (c .before .before .before .before .before .before .before .if1 .taken)
-    (c .before .before .before .before .before .below .ensures ∙ ap below (c .before .before .before .before .before .before .attributes .ensures .0))
-    (c .before .before .before .mask .ensures .0) (c .before .before .place-symbol .ensures)
+returns c =
+    nonterminal-placed _ _ _ _ _ _ (c .before .before .place-symbol .last .0) _ (c .before .before .before .before .before .before .before
+    .before .nonterminal .ensures) (c .before .before .before .before .before .before .before .if1 .taken) (c .before .before .before
+    .before .before .below .ensures ∙ ap below (c .before .before .before .before .before .before .attributes .ensures .0)) (c .before
+    .before .before .mask .ensures .0) (c .before .before .place-symbol .ensures)
 
 returns-2 : tie.Need-returns-2
 returns-2 c = search over-terminal

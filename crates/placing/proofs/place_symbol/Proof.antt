@@ -33,9 +33,7 @@ add-number-set : tie.Need-add-number-set Inv-loop μ-loop
 add-number-set c = search needs
 
 number-set-requires : tie.Need-number-set-requires Inv-loop μ-loop
-number-set-requires c κs = 
-    taken-fits (c .before .before .before .before .before .before .args .sets .now) (c .before .before .before .before .before .before .args .at) (c .before .before .before .before .before .before .args .every) (c .before .before .before .before .before .before .args .inherited) (c .before .before .before .before .before .before .args .arcs) (c .before .before .before .before .loop .sets) (c .before .before .before .before .loop .left) (c .before .before .before .before .loop .k) (c .before .before .class-of .result)
-    (c .before .taken-from .result) (c .before .before .before .before .loop .inv) (c .before .taken-from .ensures)
+number-set-requires c κs = taken-fits _ _ _ _ _ _ _ _ _ _ (c .before .before .before .before .loop .inv) (c .before .taken-from .ensures)
 
 minus-requires : tie.Need-minus-requires Inv-loop μ-loop
 minus-requires c κs = search needs

@@ -46,10 +46,9 @@ loop-less : tie.Need-loop-less Inv-loop μ-loop
 loop-less c = search needs
 
 loop-again : tie.Need-loop-again Inv-loop μ-loop
-loop-again c = 
-    (c .before .before .before .before .before .loop .inv .0,
-    sets-turn (c .before .before .before .before .before .before .before .before .args .words .now) (c .before .before .before .before .before .before .before .before .args .ids .now) (c .before .before .before .before .before .loop .sets) (c .before .before .before .before .before .loop .x) _ (c .before .place-nonterminal .last .1 .1 .1 .0) (c .before .before .before .before .before .loop .inv .1) (omega arith) refl
-    (c .before .place-nonterminal .ensures))
+loop-again c =
+    (c .before .before .before .before .before .loop .inv .0, sets-turn _ _ _ _ _ (c .before .place-nonterminal .last .1 .1 .1 .0) (c
+    .before .before .before .before .before .loop .inv .1) (omega arith) refl (c .before .place-nonterminal .ensures))
 
 returns : tie.Need-returns Inv-loop μ-loop
 returns c = 

@@ -94,11 +94,11 @@ loop-holds c =
 
 rule-fault-requires : tie.Need-rule-fault-requires Inv-loop μ-loop
 rule-fault-requires c κs =
-    let few : (c .before .before .word2 .result) ≤ 64 =
-        few-rules _ _ _ (c .before .before .before .before .before .before .before .before .before .before .before .before .header
-        .ensures) (c .before .before .before .before .before .before .before .before .before .before .enum-told .given .1) (c .before
-        .before .word2 .ensures .0) in
-    (omega arith, symbols-formed _ _ _ (c .before .before .before .before .before .before .before .before .symbols-fault .ensures) (c .before .before .before .before .before .before .before .before .before .word .ensures .0) (c .before .before .before .before .before .before .enum-told3 .given .1))
+    let few : _ ≤ 64 = few-rules _ _ _ (c .before .before .before .before .before .before .before .before .before .before .before .before
+    .header .ensures) (c .before .before .before .before .before .before .before .before .before .before .enum-told .given .1) (c .before
+    .before .word2 .ensures .0) in (omega arith, symbols-formed _ _ _ (c .before .before .before .before .before .before .before .before
+    .symbols-fault .ensures) (c .before .before .before .before .before .before .before .before .before .word .ensures .0) (c .before
+    .before .before .before .before .before .enum-told3 .given .1))
 
 enum-told-7 : tie.Need-enum-told-7 Inv-loop μ-loop
 enum-told-7 c = search needs
@@ -117,22 +117,18 @@ returns-4 c =
 
 cast-offsets : tie.Need-cast-offsets Inv-loop μ-loop
 cast-offsets c =
-    let few : (c .before .before .before .before .before .word2 .result) ≤ 64 =
-        few-rules _ _ _ (c .before .before .before .before .before .before .before .before .before .before .before .before .before .before
-        .before .header .ensures) (c .before .before .before .before .before .before .before .before .before .before .before .before
-        .before .enum-told .given .1) (c .before .before .before .before .before .word2 .ensures .0) in
-    omega arith
+    let few : _ ≤ 64 = few-rules _ _ _ (c .before .before .before .before .before .before .before .before .before .before .before .before
+    .before .before .before .header .ensures) (c .before .before .before .before .before .before .before .before .before .before .before
+    .before .before .enum-told .given .1) (c .before .before .before .before .before .word2 .ensures .0) in omega arith
 
 mul-offsets : tie.Need-mul-offsets Inv-loop μ-loop
 mul-offsets c = search needs
 
 array-write-offsets : tie.Need-array-write-offsets Inv-loop μ-loop
 array-write-offsets c =
-    let few : (c .before .before .before .before .before .word2 .result) ≤ 64 =
-        few-rules _ _ _ (c .before .before .before .before .before .before .before .before .before .before .before .before .before .before
-        .before .header .ensures) (c .before .before .before .before .before .before .before .before .before .before .before .before
-        .before .enum-told .given .1) (c .before .before .before .before .before .word2 .ensures .0) in
-    omega arith
+    let few : _ ≤ 64 = few-rules _ _ _ (c .before .before .before .before .before .before .before .before .before .before .before .before
+    .before .before .before .header .ensures) (c .before .before .before .before .before .before .before .before .before .before .before
+    .before .before .enum-told .given .1) (c .before .before .before .before .before .word2 .ensures .0) in omega arith
 
 add-r : tie.Need-add-r Inv-loop μ-loop
 add-r c = search needs
@@ -142,11 +138,11 @@ loop-less c = search needs
 
 loop-again : tie.Need-loop-again Inv-loop μ-loop
 loop-again c =
-    let few : (c .before .before .before .before .before .word2 .result) ≤ 64 =
-        few-rules _ _ _ (c .before .before .before .before .before .before .before .before .before .before .before .before .before .before
-        .before .header .ensures) (c .before .before .before .before .before .before .before .before .before .before .before .before
-        .before .enum-told .given .1) (c .before .before .before .before .before .word2 .ensures .0) in
-    (omega arith, turn _ _ _ _ _ (c .before .before .before .before .loop .inv .1) _ _ _ (omega arith) (c .before .before .rule-fault .ensures .0) (c .enum-told7 .given .1) (c .before .before .rule-fault .ensures .1))
+    let few : _ ≤ 64 = few-rules _ _ _ (c .before .before .before .before .before .before .before .before .before .before .before .before
+    .before .before .before .header .ensures) (c .before .before .before .before .before .before .before .before .before .before .before
+    .before .before .enum-told .given .1) (c .before .before .before .before .before .word2 .ensures .0) in (omega arith, turn _ _ _ _ _ (c
+    .before .before .before .before .loop .inv .1) _ _ _ (omega arith) (c .before .before .rule-fault .ensures .0) (c .enum-told7 .given
+    .1) (c .before .before .rule-fault .ensures .1))
 
 rule-before-requires : tie.Need-rule-before-requires Inv-loop μ-loop
 rule-before-requires c κs = search needs
@@ -188,18 +184,26 @@ returns-6 c =
 
 returns-7 : tie.Need-returns-7 Inv-loop μ-loop
 returns-7 c =
-    let good : Good ≡ readTable (c .before .before .before .before .before .before .before .before .before .before .before .before .before .before .before .before .before .before .before .before .args .words .now) =
-        opening _ _ _ _ _ _ (c .before .before .before .before .before .before .before .before .before .before .before .before .before
-        .before .before .before .before .before .header .ensures) (c .before .before .before .before .before .before .before .before
-        .before .before .before .before .before .before .before .before .enum-told .given .1) (c .before .before .before .before .before
-        .before .before .before .before .before .before .before .before .before .symbols-fault .ensures) (c .before .before .before .before
-        .before .before .before .before .before .before .before .before .before .before .before .word .ensures .0) (c .before .before
-        .before .before .before .before .before .before .before .before .before .before .enum-told3 .given .1) (c .before .before .before
-        .before .before .before .before .before .before .before .before .start-class .ensures) (c .before .before .before .before .before
-        .before .before .before .before .enum-told5 .given .1)
-    (passes _ _ _ _ (rules-end _ _ _ _ _ (c .before .before .before .before .before .before .before .loop .inv .1) _ (c .before .before .before .before .before .before .before .before .word2 .ensures .0) (c .before .before .before .before .before .before .before .loop .inv .0) (c .before .before .before .before .before .before .loop-test .left)) refl
-    (passes _ _ _ _ (before-end _ _ _ _ _ (c .before .before .before .before .before .before .before .loop .inv .1) _ (c .before .before .before .before .before .before .before .before .word2 .ensures .0) (c .before .before .before .before .before .before .before .loop .inv .0) (c .before .before .before .before .before .before .loop-test .left) _ (c .before .before .before .before .before .rule-before .ensures)) (c .before .before .before .enum-told9 .given .1) (sym (c .enum-told11 .given .1) ∙ over-end _ _ _ _ _ (c .before .before .before .before .before .before .before .loop .inv .1) _ (c .before .before .before .before .before .before .before .before .word2 .ensures .0) (c .before .before .before .before .before .before .before .loop .inv .0) (c .before .before .before .before .before .before .loop-test .left) _ (c .before .before .left-over .ensures)))) in
-    (good, offsets-end _ _ _ _ _ (c .before .before .before .before .before .before .before .loop .inv .1) _ (c .before .before .before .before .before .before .before .before .word2 .ensures .0) (c .before .before .before .before .before .before .before .loop .inv .0) (c .before .before .before .before .before .before .loop-test .left) good)
+    let good : Good ≡ readTable _ = opening _ _ _ _ _ _ (c .before .before .before .before .before .before .before .before .before .before
+    .before .before .before .before .before .before .before .before .header .ensures) (c .before .before .before .before .before .before
+    .before .before .before .before .before .before .before .before .before .before .enum-told .given .1) (c .before .before .before
+    .before .before .before .before .before .before .before .before .before .before .before .symbols-fault .ensures) (c .before .before
+    .before .before .before .before .before .before .before .before .before .before .before .before .before .word .ensures .0) (c .before
+    .before .before .before .before .before .before .before .before .before .before .before .enum-told3 .given .1) (c .before .before
+    .before .before .before .before .before .before .before .before .before .start-class .ensures) (c .before .before .before .before
+    .before .before .before .before .before .enum-told5 .given .1) (passes _ _ _ _ (rules-end _ _ _ _ _ (c .before .before .before .before
+    .before .before .before .loop .inv .1) _ (c .before .before .before .before .before .before .before .before .word2 .ensures .0) (c
+    .before .before .before .before .before .before .before .loop .inv .0) (c .before .before .before .before .before .before .loop-test
+    .left)) refl (passes _ _ _ _ (before-end _ _ _ _ _ (c .before .before .before .before .before .before .before .loop .inv .1) _ (c
+    .before .before .before .before .before .before .before .before .word2 .ensures .0) (c .before .before .before .before .before .before
+    .before .loop .inv .0) (c .before .before .before .before .before .before .loop-test .left) _ (c .before .before .before .before
+    .before .rule-before .ensures)) (c .before .before .before .enum-told9 .given .1) (sym (c .enum-told11 .given .1) ∙ over-end _ _ _ _ _
+    (c .before .before .before .before .before .before .before .loop .inv .1) _ (c .before .before .before .before .before .before .before
+    .before .word2 .ensures .0) (c .before .before .before .before .before .before .before .loop .inv .0) (c .before .before .before
+    .before .before .before .loop-test .left) _ (c .before .before .left-over .ensures)))) in (good, offsets-end _ _ _ _ _ (c .before
+    .before .before .before .before .before .before .loop .inv .1) _ (c .before .before .before .before .before .before .before .before
+    .word2 .ensures .0) (c .before .before .before .before .before .before .before .loop .inv .0) (c .before .before .before .before
+    .before .before .loop-test .left) good)
 
 pub read-spec : {M : Type 1} → statement M
 read-spec =

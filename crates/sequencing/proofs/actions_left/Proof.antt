@@ -24,17 +24,14 @@ count-requires-3 c κs = search needs
 
 add-result-2 : tie.Need-add-result-2
 add-result-2 c =
-    record {
-        fits =
-            omega (arith,
-            counts-fit (c .before .before .before .args .state .computes) (c .before .before .before .args .state .visits) (c .before .before .before .args .state .leaves) (c .before .before .count .result) (c .before .count2 .result) (c .count3 .result)
-            (c .before .before .count .ensures) (c .before .count2 .ensures) (c .count3 .ensures))
-    }
+    record { fits = omega (arith, counts-fit (c .before .before .before .args .state .computes) (c .before .before .before .args .state
+    .visits) (c .before .before .before .args .state .leaves) _ _ _ (c .before .before .count .ensures) (c .before .count2 .ensures) (c
+    .count3 .ensures)) }
 
 returns : tie.Need-returns
 returns c =
-    (omega (arith, (c .before .before .count .ensures), (c .before .count2 .ensures), (c .count3 .ensures)),
-    counts-fit (c .before .before .before .args .state .computes) (c .before .before .before .args .state .visits) (c .before .before .before .args .state .leaves) (c .before .before .count .result) (c .before .count2 .result) (c .count3 .result)
+    (omega (arith, (c .before .before .count .ensures), (c .before .count2 .ensures), (c .count3 .ensures)), counts-fit (c .before .before
+    .before .args .state .computes) (c .before .before .before .args .state .visits) (c .before .before .before .args .state .leaves) _ _ _
     (c .before .before .count .ensures) (c .before .count2 .ensures) (c .count3 .ensures))
 
 pub actions-left-spec : {M : Type 1} → statement M

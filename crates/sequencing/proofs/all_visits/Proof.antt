@@ -36,7 +36,7 @@ mul-raised c = search needs
 
 raised-requires : tie.Need-raised-requires Inv-loop μ-loop
 raised-requires c κs =
-    calling-place (c .before .before .before .before .before .before .before .args .words .now) (c .before .before .before .before .before .before .before .args .sets .now) (c .before .before .before .before .before .before .before .args .p) _ (c .before .before .before .loop .visits) (c .before .before .before .loop .i) (c .before .symbol-of .result) _ (c .before .before .before .loop .inv) (c .before .before .loop-test .taken) (c .child-visits .ensures)
+    calling-place _ _ _ _ _ _ _ _ (c .before .before .before .loop .inv) (c .before .before .loop-test .taken) (c .child-visits .ensures)
 
 union-requires : tie.Need-union-requires Inv-loop μ-loop
 union-requires c κs = search needs

@@ -33,7 +33,8 @@ mul-raised c = search needs
 
 raised-requires : tie.Need-raised-requires Inv-loop μ-loop
 raised-requires c κs =
-    making-place (c .before .before .before .before .before .before .args .words .now) (c .before .before .before .before .before .before .args .p) _ (c .before .before .before .loop .made) (c .before .before .before .loop .i) (c .before .symbol-of .result) _ (c .before .before .before .loop .inv) (c .before .before .loop-test .taken) (c .before .symbol-of .ensures .0) (c .made-attributes .ensures)
+    making-place _ _ _ _ _ _ _ (c .before .before .before .loop .inv) (c .before .before .loop-test .taken) (c .before .symbol-of .ensures
+    .0) (c .made-attributes .ensures)
 
 union-requires : tie.Need-union-requires Inv-loop μ-loop
 union-requires c κs = search needs

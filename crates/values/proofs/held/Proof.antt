@@ -28,9 +28,9 @@ returns-2 c =
 
 returns-3 : tie.Need-returns-3
 returns-3 c =
-    let low = tested {y = least} (c .before .before .fits .x) (sfits-lit tt) (c .before .if1 .left) in
-    let high = tested {x = greatest} (sfits-lit tt) (c .before .before .fits .x) (c .if2 .left) in
-    read (toZ-ofZ (c .before .before .fits .x)) (within-fits (c .before .before .args .x) low high) ∙ sym (hold-within (c .before .before .args .x) low high)
+    let low = tested {y = least} (c .before .before .fits .x) (sfits-lit tt) (c .before .if1 .left) in let high = tested {x = greatest}
+    (sfits-lit tt) (c .before .before .fits .x) (c .if2 .left) in read (toZ-ofZ (c .before .before .fits .x)) (within-fits _ low high) ∙
+    sym (hold-within _ low high)
 
 pub held-spec : {M : Type 1} → statement M
 held-spec = tie.close (tie.spec cast-result returns returns-2 returns-3)
