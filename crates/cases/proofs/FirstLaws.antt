@@ -1,14 +1,12 @@
 -- The order of the cases: of two different ones one is earlier, and none is earlier than itself. So one case at most is the first.
 -- Assumes nothing.
-use Prim.Native.Nat.{ℕ, _*_, _-_, _<_}
+use Prim.Native.Nat.{ℕ, _<_}
 use mathlib.Core.Path.{_≡_, refl, sym, _∙_, ap, subst}
 use mathlib.Core.Logic.{_⊎_, inl, inr, ⊎-elim}
-use mathlib.Core.Bool.{Bool, true, false, cond}
 use mathlib.Core.List.{List, [], _∷_}
 use native.Mathlib.Omega.{arith}
-use lib.Dec.{eqb, eqb→eq}
 use lib.ListN.{getD}
-use Rattle.basics.proofs.TestLaws.{below-or-not, true-T}
+use Rattle.basics.proofs.TestLaws.{below-or-not}
 use Rattle.refusals.specs.declared.Refusal.{Refusal}
 use Rattle.refusals.specs.declared.Refusal.the-variants.{
     EndsEarly, OutOfRange, WrongClass, NoOccurrence, NotDefining, Undefined, LeftOver, TooShort, CircularIdp, CircularEdp, Stuck,
@@ -17,9 +15,8 @@ use Rattle.refusals.specs.declared.Refusal.the-variants.{
 use Rattle.refusals.specs.Numbers.{numberOf, placeOf, secondOf}
 use Rattle.grammar.specs.declared.Verdict.{Verdict}
 use Rattle.grammar.specs.declared.Verdict.the-variants.{Good, Refused}
-use Rattle.grammar.specs.Table.{ruleAt}
 use Rattle.grammar.specs.Verdicts.{_then_}
-use Rattle.cases.specs.First.{walk, turn, Earlier, earlierWalk, earlierTurn, lowerOccurrence, lowerNumber, First, GoesBy}
+use Rattle.cases.specs.First.{walk, Earlier, earlierWalk, earlierPlace, lowerOccurrence, lowerNumber, First, GoesBy}
 
 -- a verdict is good or one refusal
 pub good-not-refused : (n : Refusal) → Good ≡ Refused n → ⊥
@@ -68,68 +65,50 @@ rebuilds (NotOneParent n) = refl
 rebuilds ValuesTooShort = refl
 
 module _ (g : List ℕ) where
-  -- a number and a turn make the place
-  turn-place : (b c d : Bool) (p q : ℕ) → eqb p 2 ≡ c → eqb q 2 ≡ d
-      → cond b (cond c (2 * ruleAt g 0 - 1) (2 * p)) (2 * p) ≡ cond b (cond d (2 * ruleAt g 0 - 1) (2 * q)) (2 * q) → p ≡ q
-  unfolding ruleAt
-  turn-place false c d p q i j e = omega arith
-  turn-place true false false p q i j e = omega arith
-  turn-place true true false p q i j e = absurd (omega arith)
-  turn-place true false true p q i j e = absurd (omega arith)
-  turn-place true true true p q i j e =
-      let a : p ≡ 2 = eqb→eq p 2 (true-T (eqb p 2) i) in
-      let b : q ≡ 2 = eqb→eq q 2 (true-T (eqb q 2) j) in
-      omega arith
-
-  same-place : (m n : Refusal) → numberOf m ≡ numberOf n → turn g m ≡ turn g n → placeOf m ≡ placeOf n
-  same-place m n e f =
-      turn-place (eqb (numberOf m) 3) (eqb (placeOf m) 2) (eqb (placeOf n) 2) (placeOf m) (placeOf n) refl refl
-      (f ∙ ap (λ (k : ℕ). cond (eqb k 3) (cond (eqb (placeOf n) 2) (2 * ruleAt g 0 - 1) (2 * placeOf n)) (2 * placeOf n)) (sym e))
-
-  same-case : (m n : Refusal) → numberOf m ≡ numberOf n → turn g m ≡ turn g n → secondOf m ≡ secondOf n → m ≡ n
+  same-case : (m n : Refusal) → numberOf m ≡ numberOf n → placeOf m ≡ placeOf n → secondOf m ≡ secondOf n → m ≡ n
   same-case m n e f h =
       sym (rebuilds m)
       ∙ (ap (λ (k : ℕ). rebuilt k (placeOf m) (secondOf m)) e
-      ∙ (ap (λ (k : ℕ). rebuilt (numberOf n) k (secondOf m)) (same-place m n e f)
+      ∙ (ap (λ (k : ℕ). rebuilt (numberOf n) k (secondOf m)) f
       ∙ (ap (λ (k : ℕ). rebuilt (numberOf n) (placeOf n) k) h ∙ rebuilds n)))
 
   -- of two cases one is earlier, or they are the same
   pub ordered : (m n : Refusal) → Earlier g m n ⊎ Earlier g n m ⊎ (m ≡ n)
-  ordered m n = by-walk (compared (walk m) (walk n))
+  ordered m n = by-walk (compared (walk g m) (walk g n))
     where
-      by-number : walk m ≡ walk n → turn g m ≡ turn g n → secondOf m ≡ secondOf n → Compared (numberOf m) (numberOf n)
+      by-number : walk g m ≡ walk g n → placeOf m ≡ placeOf n → secondOf m ≡ secondOf n → Compared (numberOf m) (numberOf n)
           → Earlier g m n ⊎ Earlier g n m ⊎ (m ≡ n)
       by-number w t s (lower l) = inl (lowerNumber w t s l)
       by-number w t s (same e) = inr (inr (same-case m n e t s))
       by-number w t s (higher l) = inr (inl (lowerNumber (sym w) (sym t) (sym s) l))
-      by-second : walk m ≡ walk n → turn g m ≡ turn g n → Compared (secondOf m) (secondOf n) → Earlier g m n ⊎ Earlier g n m ⊎ (m ≡ n)
+      by-second : walk g m ≡ walk g n → placeOf m ≡ placeOf n → Compared (secondOf m) (secondOf n) → Earlier g m n ⊎ Earlier g n m ⊎ (m ≡ n)
       by-second w t (lower l) = inl (lowerOccurrence w t l)
       by-second w t (same e) = by-number w t e (compared (numberOf m) (numberOf n))
       by-second w t (higher l) = inr (inl (lowerOccurrence (sym w) (sym t) l))
-      by-turn : walk m ≡ walk n → Compared (turn g m) (turn g n) → Earlier g m n ⊎ Earlier g n m ⊎ (m ≡ n)
-      by-turn w (lower l) = inl (earlierTurn w l)
-      by-turn w (same e) = by-second w e (compared (secondOf m) (secondOf n))
-      by-turn w (higher l) = inr (inl (earlierTurn (sym w) l))
-      by-walk : Compared (walk m) (walk n) → Earlier g m n ⊎ Earlier g n m ⊎ (m ≡ n)
+      by-place : walk g m ≡ walk g n → Compared (placeOf m) (placeOf n) → Earlier g m n ⊎ Earlier g n m ⊎ (m ≡ n)
+      by-place w (lower l) = inl (earlierPlace w l)
+      by-place w (same e) = by-second w e (compared (secondOf m) (secondOf n))
+      by-place w (higher l) = inr (inl (earlierPlace (sym w) l))
+      by-walk : Compared (walk g m) (walk g n) → Earlier g m n ⊎ Earlier g n m ⊎ (m ≡ n)
       by-walk (lower l) = inl (earlierWalk l)
-      by-walk (same e) = by-turn e (compared (turn g m) (turn g n))
+      by-walk (same e) = by-place e (compared (placeOf m) (placeOf n))
       by-walk (higher l) = inr (inl (earlierWalk l))
 
   -- one case at most is the first
-  first-one : (Case : Refusal → Type 0) (m n : Refusal) → First g Case m → First g Case n → m ≡ n
+  first-one : (Case : Refusal → Type 1) (m n : Refusal) → First g Case m → First g Case n → m ≡ n
   first-one Case m n v w =
       ⊎-elim (λ e. absurd (w .noEarlier m (v .applies) e))
       (λ r. ⊎-elim (λ e. absurd (v .noEarlier n (w .applies) e)) (λ e. e) r) (ordered m n)
 
   -- what is in a later walk is not earlier
-  pub later-walk : (m n : Refusal) → walk n < walk m → Earlier g m n → ⊥
+  pub later-walk : (m n : Refusal) → walk g n < walk g m → Earlier g m n → ⊥
   later-walk m n h (earlierWalk l) = omega arith
-  later-walk m n h (earlierTurn e l) = omega arith
+  later-walk m n h (earlierPlace e l) = omega arith
   later-walk m n h (lowerOccurrence e f l) = omega arith
   later-walk m n h (lowerNumber e f s l) = omega arith
 
   -- a verdict that is good only where no case applies, and whose refusal is the first case, goes by the cases
-  pub goes-by : (Case : Refusal → Type 0) (v : Verdict) → (v ≡ Good → (n : Refusal) → ¬ Case n)
+  pub goes-by : (Case : Refusal → Type 1) (v : Verdict) → (v ≡ Good → (n : Refusal) → ¬ Case n)
       → ((n : Refusal) → v ≡ Refused n → First g Case n) → GoesBy g Case v
   goes-by Case v none first =
       record {
@@ -146,18 +125,18 @@ module _ (g : List ℕ) where
       same-refusal (Refused m) h f e n q = e ∙ ap Refused (first-one Case m n (f m refl) q)
 
   -- a verdict's finding: no case applies, or this is the first
-  pub data Found (Case : Refusal → Type 0) (v : Verdict) : Type 0 where
+  pub data Found (Case : Refusal → Type 1) (v : Verdict) : Type 1 where
     nothing : v ≡ Good → ((n : Refusal) → ¬ Case n) → Found Case v
     fault : (n : Refusal) → v ≡ Refused n → First g Case n → Found Case v
 
-  pub by-finding : (Case : Refusal → Type 0) (v : Verdict) → Found Case v → GoesBy g Case v
+  pub by-finding : (Case : Refusal → Type 1) (v : Verdict) → Found Case v → GoesBy g Case v
   by-finding Case v (nothing e h) = goes-by Case v (λ i. h) (λ n i. absurd (good-not-refused n (sym e ∙ i)))
   by-finding Case v (fault m e f) =
       goes-by Case v (λ i. absurd (good-not-refused m (sym i ∙ e))) (λ n i. subst (First g Case) (same-refused m n (sym e ∙ i)) f)
 
   -- Two verdicts one after the other, the cases of the second in later walks: together they go by the cases of both.
-  module _ (A B Both : Refusal → Type 0) (left : (n : Refusal) → A n → Both n) (right : (n : Refusal) → B n → Both n)
-      (either : (n : Refusal) → Both n → A n ⊎ B n) (later : (m n : Refusal) → A m → B n → walk m < walk n) where
+  module _ (A B Both : Refusal → Type 1) (left : (n : Refusal) → A n → Both n) (right : (n : Refusal) → B n → Both n)
+      (either : (n : Refusal) → Both n → A n ⊎ B n) (later : (m n : Refusal) → A m → B n → walk g m < walk g n) where
     first-left : (n : Refusal) → First g A n → First g Both n
     first-left n f =
         record {

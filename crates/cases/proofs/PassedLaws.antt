@@ -16,13 +16,13 @@ use Rattle.grammar.specs.Verdicts.{_then_, unless, each}
 use Rattle.cases.specs.First.{Earlier, GoesBy}
 use Rattle.cases.proofs.FirstLaws.{good-not-refused, same-refused, goes-by}
 
-module _ (Case : Refusal → Type 0) (key : Refusal → ℕ) where
+module _ (Case : Refusal → Type 1) (key : Refusal → ℕ) where
   -- what the verdict refuses has a key below this one
   pub record Ends (v : Verdict) (end : ℕ) : Type 0 where
     pub below : (n : Refusal) → v ≡ Refused n → key n < end
 
   -- and is a case
-  pub record Within (v : Verdict) (end : ℕ) : Type 0 where
+  pub record Within (v : Verdict) (end : ℕ) : Type 1 where
     pub is : (n : Refusal) → v ≡ Refused n → Case n
     pub ends : Ends v end
 

@@ -20,10 +20,11 @@ use Rattle.running.specs.declared.Ran as R
 use Rattle.runner.specs.Whole.{answer}
 use Rattle.cases.specs.First.{First}
 use Rattle.cases.specs.Table.{TableCase}
-use Rattle.cases.specs.Planning.{PlanCase, refusedWith}
+use Rattle.cases.specs.Planning.{PlanCase}
 use Rattle.cases.specs.Tree.{TreeCase}
 use Rattle.cases.specs.All.{RunCase, PlanRefuses, Refuses}
 use Rattle.cases.proofs.TableTests.{table-verdict}
+use Rattle.cases.proofs.PlanTests.{refusedWith}
 use Rattle.cases.proofs.PlanTests as plan
 use Rattle.cases.proofs.TreeTests.{tree-verdict}
 use Rattle.cases.proofs.RunTests as run
@@ -46,7 +47,7 @@ tree-good g t valuesLength good = tree-verdict g t valuesLength (well-formed g g
 
 module _ (g : List ℕ) (rowsLength planLength : ℕ) where
   -- planning: 1 to 11, how far it comes and what it answers
-  pub outcome-refused : (n : Refusal) → (outcome g rowsLength planLength ≡ refusedWith n) ↔ PlanRefuses g rowsLength planLength n
+  pub outcome-refused : (n : Refusal) → (outcome g rowsLength planLength ≡ refusedWith g n) ↔ PlanRefuses g rowsLength planLength n
   outcome-refused n = plan.plan-outcome g rowsLength planLength n
 
   pub outcome-accepted : (outcome g rowsLength planLength ≡ accepted) ↔ ((n : Refusal) → ¬ PlanCase g rowsLength planLength n)
@@ -56,8 +57,8 @@ module _ (g : List ℕ) (rowsLength planLength : ℕ) where
       → (answerOf g (outcome g rowsLength planLength) ≡ P.the-variants.Refused n) ↔ PlanRefuses g rowsLength planLength n
   planning-refused n = plan.plan-refused g rowsLength planLength n
 
-  pub planning-accepted : (answerOf g (outcome g rowsLength planLength) ≡ P.the-variants.Accepted (planWords (rules g)))
-      ↔ ((n : Refusal) → ¬ PlanCase g rowsLength planLength n)
+  pub planning-accepted : (k : ℕ) → (answerOf g (outcome g rowsLength planLength) ≡ P.the-variants.Accepted k)
+      ↔ ((k ≡ planWords (rules g)) × ((n : Refusal) → ¬ PlanCase g rowsLength planLength n))
   planning-accepted = plan.plan-accepted g rowsLength planLength
 
   -- 11 is never the first case

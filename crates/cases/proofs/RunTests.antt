@@ -1,6 +1,6 @@
 -- A whole run: planning, then the check of the tree. It answers refusal n exactly if n is the first of all cases that applies, and a
 -- run that it carries out is never answered with a refusal. Assumes nothing.
-use Prim.Native.Nat.{ℕ, zero, suc, _≤_}
+use Prim.Native.Nat.{ℕ, zero, suc}
 use mathlib.Core.Path.{_≡_, refl}
 use mathlib.Core.Logic.{_⊎_, inl, inr, _↔_, Iff·trans}
 use mathlib.Core.Bool.{Bool, true, false}
@@ -20,14 +20,14 @@ use Rattle.running.specs.declared.Ran as R
 use Rattle.running.specs.Automaton.{Machine, started, step}
 use Rattle.running.specs.Run.{Ended, idle, lastAnswer, runOn, ran, runAnswer}
 use Rattle.runner.specs.Whole.{came, leftPlan, answer}
-use Rattle.cases.specs.First.{walk, GoesBy}
-use Rattle.cases.specs.Planning.{PlanCase, inTable, inPlanning}
+use Rattle.cases.specs.First.{GoesBy}
+use Rattle.cases.specs.Planning.{PlanCase, inTable}
 use Rattle.cases.specs.Tree.{TreeCase}
 use Rattle.cases.specs.All.{RunCase, inPlan, inTree, Refuses}
 use Rattle.cases.proofs.FirstLaws.{good-not-refused, goes-then}
-use Rattle.cases.proofs.TableTests.{table-walk, table-verdict}
-use Rattle.cases.proofs.PlanTests.{verdictOf, planning-walk, plan-verdict}
-use Rattle.cases.proofs.TreeTests.{tree-walk, tree-verdict}
+use Rattle.cases.proofs.TableTests.{table-verdict}
+use Rattle.cases.proofs.PlanTests.{verdictOf, plan-walk, plan-verdict}
+use Rattle.cases.proofs.TreeTests.{tree-place, tree-verdict}
 
 -- A run that is carried out is done or stopped.
 last-runs : (b : Bool) (count : ℕ) (n : Refusal) → lastAnswer b count ≡ R.the-variants.Refused n → ⊥
@@ -66,10 +66,6 @@ module _ (g : List ℕ) (rowsLength planLength : ℕ) (t : List ℕ) (valuesLeng
   either n (inPlan c) = inl c
   either n (inTree c) = inr c
 
-  pub plan-walk : (n : Refusal) → PlanCase g rowsLength planLength n → walk n ≤ 11
-  plan-walk n (inTable c) = omega (arith, table-walk g n c .0)
-  plan-walk n (inPlanning c) = planning-walk g rowsLength planLength n c .1
-
   -- a plan comes only of a table that is read
   planned-good : verdictOf (outcome g rowsLength planLength) ≡ Good → readTable g ≡ Good
   planned-good e = table-verdict g .good .1 (λ n c. plan-verdict g rowsLength planLength .good .0 e n (inTable c))
@@ -79,7 +75,7 @@ module _ (g : List ℕ) (rowsLength planLength : ℕ) (t : List ℕ) (valuesLeng
       (verdictOf (outcome g rowsLength planLength) then checkTree g t valuesLength)
   run-verdict =
       goes-then g (PlanCase g rowsLength planLength) (TreeCase g t valuesLength) (RunCase g rowsLength planLength t valuesLength)
-      (λ n c. inPlan c) (λ n c. inTree c) either (λ m n c d. omega (arith, plan-walk m c, tree-walk g t valuesLength n d .0))
+      (λ n c. inPlan c) (λ n c. inTree c) either (λ m n c d. omega (arith, plan-walk g rowsLength planLength m c, tree-place g t valuesLength n d .late))
       (verdictOf (outcome g rowsLength planLength)) (checkTree g t valuesLength) (plan-verdict g rowsLength planLength)
       (λ e. tree-verdict g t valuesLength (accepted g (planned-good e)))
 

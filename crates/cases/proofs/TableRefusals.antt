@@ -1,7 +1,7 @@
 -- Each refusal of the reader is a case of document 01's table, and the reader's tests stand in the order of the cases' keys.
 -- Assumes nothing.
 use Prim.Native.Nat.{ℕ, zero, suc, _+_, _*_, _-_, _^_, _≤_, _<_}
-use mathlib.Core.Path.{_≡_, refl, subst⁻¹}
+use mathlib.Core.Path.{_≡_, refl, _∙_, subst⁻¹}
 use mathlib.Core.Logic.{⊎-elim}
 use mathlib.Core.Bool.{Bool, true, false, cond, not}
 use mathlib.Core.List.{List}
@@ -11,11 +11,14 @@ use lib.ListN.{length}
 use Rattle.basics.specs.Tests.{_and_, _or_, _implies_}
 use Rattle.basics.specs.Lists.{word}
 use Rattle.basics.proofs.TestLaws.{
-    and-intro, or-left, or-right, some-at, some-find, all-fails, implies-fails, eq-T, passed-over, tested, below-or-not
+    and-intro, or-left, or-right, some-at, some-find, all-fails, implies-fails, eq-T, chosen, passed-over, tested, below-or-not
 }
 use Rattle.refusals.specs.declared.Refusal.{Refusal}
-use Rattle.refusals.specs.declared.Refusal.the-variants.{EndsEarly, OutOfRange, WrongClass, NoOccurrence, NotDefining, Undefined, LeftOver}
-use Rattle.refusals.specs.Numbers.{numberOf}
+use Rattle.refusals.specs.declared.Refusal.the-variants.{
+    EndsEarly, OutOfRange, WrongClass, NoOccurrence, NotDefining, Undefined, LeftOver, TooShort, CircularIdp, CircularEdp, Stuck, TreeSize,
+    NoSuchRule, BadChild, RootNotStart, ChildDiffers, NotOneParent, ValuesTooShort
+}
+use Rattle.refusals.specs.Numbers.{numberOf, placeOf}
 use Rattle.grammar.specs.declared.Verdict.{Verdict}
 use Rattle.grammar.specs.declared.Verdict.the-variants.{Good}
 use Rattle.grammar.specs.Limits.{mostSymbols, mostRules, mostAttributes, longestRight, mostFunctions, lastOperation, mostOccurrences}
@@ -31,16 +34,62 @@ use Rattle.grammar.specs.Reading.{
 use Rattle.grammar.proofs.VerdictLaws.{each-at}
 use Rattle.grammar.proofs.Accepted.{ranged-passes, header-start, symbol-formed}
 use Rattle.grammar.proofs.Places.{functions-rise, rule-step, rules-rise}
-use Rattle.cases.specs.First.{turn}
+use Rattle.cases.specs.First.{symbolWalk, startWalk, ruleWalk, wordWalk, walk}
 use Rattle.cases.specs.Table.{HasFunction, TableCase}
 use Rattle.cases.specs.Table as case
 use Rattle.cases.proofs.PassedLaws.{Within, within-good, within-then, within-unless, within-each}
+
+-- The turn of a case 1 to 7 as one number, twice its place: 3 at word 2 has its turn just before the first word of the first rule.
+abbrev pub turn : List ℕ → Refusal → ℕ
+turn g n =
+    cond (eqb (numberOf n) 3) (cond (eqb (placeOf n) 2) (2 * ruleAt g 0 - 1) (2 * placeOf n)) (2 * placeOf n)
 
 -- the order of the cases 1 to 7 as one number: at one turn the lower number goes first
 abbrev pub key : List ℕ → Refusal → ℕ
 key g n = 8 * turn g n + numberOf n
 
+-- in which walk a case has which turn
+pub data Turned (g : List ℕ) (n : Refusal) : Type 0 where
+  inSymbols : walk g n ≡ symbolWalk → turn g n ≡ 2 * placeOf n → placeOf n < ruleAt g 0 → Turned g n
+  atStart : walk g n ≡ startWalk → turn g n ≡ 2 * ruleAt g 0 - 1 → placeOf n ≡ 2 → Turned g n
+  inRules : walk g n ≡ ruleWalk → turn g n ≡ 2 * placeOf n → ruleAt g 0 ≤ placeOf n → Turned g n
+
 module _ (g : List ℕ) where
+  at-word : (n : Refusal) → walk g n ≡ wordWalk g (placeOf n) → turn g n ≡ 2 * placeOf n → Turned g n
+  unfolding wordWalk
+  at-word n w e =
+      ⊎-elim (λ h. inSymbols (w ∙ chosen (ltb (placeOf n) (ruleAt g 0)) symbolWalk ruleWalk (lt→ltb _ _ h)) e h)
+      (λ h.
+          inRules
+          (w ∙ passed-over (ltb (placeOf n) (ruleAt g 0)) symbolWalk ruleWalk (not-T (ltb (placeOf n) (ruleAt g 0)) (λ t. omega (arith, ltb→lt (placeOf n) (ruleAt g 0) t))))
+          e h)
+      (below-or-not (placeOf n) (ruleAt g 0))
+
+  pub turned : (n : Refusal) → numberOf n ≤ 7 → Turned g n
+  turned (EndsEarly p) h = at-word (EndsEarly p) refl refl
+  turned (OutOfRange p) h = at-word (OutOfRange p) refl refl
+  turned (WrongClass p) h =
+      ⊎-elim
+      (λ t.
+          atStart (chosen (eqb p 2) startWalk (wordWalk g p) t) (chosen (eqb p 2) (2 * ruleAt g 0 - 1) (2 * p) t) (eqb→eq p 2 t))
+      (λ t. at-word (WrongClass p) (passed-over (eqb p 2) startWalk (wordWalk g p) t) (passed-over (eqb p 2) (2 * ruleAt g 0 - 1) (2 * p) t))
+      (tested (eqb p 2))
+  turned (NoOccurrence p) h = at-word (NoOccurrence p) refl refl
+  turned (NotDefining p) h = at-word (NotDefining p) refl refl
+  turned (Undefined p) h = at-word (Undefined p) refl refl
+  turned (LeftOver p) h = at-word (LeftOver p) refl refl
+  turned (TooShort b) h = absurd (omega arith)
+  turned (CircularIdp r o) h = absurd (omega arith)
+  turned (CircularEdp r o) h = absurd (omega arith)
+  turned (Stuck r) h = absurd (omega arith)
+  turned TreeSize h = absurd (omega arith)
+  turned (NoSuchRule n) h = absurd (omega arith)
+  turned (BadChild n) h = absurd (omega arith)
+  turned RootNotStart h = absurd (omega arith)
+  turned (ChildDiffers n) h = absurd (omega arith)
+  turned (NotOneParent n) h = absurd (omega arith)
+  turned ValuesTooShort h = absurd (omega arith)
+
   -- where rules and functions stand
   pub first-rule : ruleAt g 0 ≡ 3 + 3 * symbols g
   unfolding ruleAt
@@ -78,7 +127,7 @@ module _ (g : List ℕ) where
       go true e = absurd (let z : p ≡ 2 = eqb→eq p 2 (subst⁻¹ (λ (x : Bool). T x) e tt) in omega arith)
       go false e = omega arith
 
-  abbrev pub In : Verdict → ℕ → Type 0
+  abbrev pub In : Verdict → ℕ → Type 1
   In v end = Within (TableCase g) (key g) v end
 
   in-then : (v w : Verdict) (end : ℕ) → In v end → In w end → In (v then w) end

@@ -30,14 +30,15 @@ use Rattle.grammar.specs.Reading.{
 use Rattle.grammar.proofs.Accepted.{defining-occurs}
 use Rattle.grammar.proofs.OccurrenceLaws.{occurs-inside}
 use Rattle.grammar.proofs.Places.{functions-rise, rule-step, rules-rise}
-use Rattle.cases.specs.First.{walk, Earlier, earlierWalk, earlierTurn, lowerOccurrence, lowerNumber, GoesBy}
+use Rattle.cases.specs.First.{ruleWalk, walk, Earlier, earlierWalk, earlierPlace, lowerOccurrence, lowerNumber, GoesBy}
+use Rattle.cases.proofs.FirstLaws.{later-walk}
 use Rattle.cases.specs.Table.{HasFunction, TableCase}
 use Rattle.cases.specs.Table as case
 use Rattle.cases.proofs.PassedLaws.{
     Ends, ends-then, ends-unless, ends-each, Passed, passed-down, passed-first, passed-second, passed-unless, passed-each, by-keys
 }
 use Rattle.cases.proofs.TableRefusals.{
-    key, first-rule, rule-end, functions-start, function-next, after-header, rule-inside, function-after, class-key, in-header,
+    Turned, inSymbols, atStart, inRules, turned, key, first-rule, rule-end, functions-start, function-next, after-header, rule-inside, function-after, class-key, in-header,
     in-symbol, in-before, in-function, in-body, in-symbols, in-table
 }
 
@@ -564,36 +565,63 @@ module _ (g : List ℕ) where
   tested-at n (case.undefined r o h d c) q = let w = defined-passed r o h d q in c (w .0) (w .1) (w .2)
   tested-at n (case.leftOver c) q = let l = over-passed q in omega arith
 
-  -- The cases are those of one walk, and their order is that of their keys.
-  pub table-walk : (n : Refusal) → TableCase g n → (walk n ≡ 1) × (numberOf n ≤ 7) × (secondOf n ≡ 0)
-  table-walk n (case.endsEarly p l h) = omega arith
-  table-walk n (case.symbolCount c) = omega arith
-  table-walk n (case.ruleCount c) = omega arith
-  table-walk n (case.startSymbol c) = omega arith
-  table-walk n (case.symbolKind x h c) = omega arith
-  table-walk n (case.attributeCount x h c) = omega arith
-  table-walk n (case.symbolMask x h c) = omega arith
-  table-walk n (case.leftSymbol r h c) = omega arith
-  table-walk n (case.rightCount r h c) = omega arith
-  table-walk n (case.rightSymbol r i h l c) = omega arith
-  table-walk n (case.functionCount r h c) = omega arith
-  table-walk n (case.operationNumber r f h c) = omega arith
-  table-walk n (case.terminalInherits x h c d) = omega arith
-  table-walk n (case.terminalLeft r h c) = omega arith
-  table-walk n (case.startTerminal c) = omega arith
-  table-walk n (case.startInherits c) = omega arith
-  table-walk n (case.targetForeign r f h c) = omega arith
-  table-walk n (case.argumentForeign r f j h l c) = omega arith
-  table-walk n (case.targetNotDefining r f h c) = omega arith
-  table-walk n (case.definedBefore r f j h l e) = omega arith
-  table-walk n (case.undefined r o h d c) = omega arith
-  table-walk n (case.leftOver c) = omega arith
+  -- The cases are those of the walks over the words, and their order is that of their keys.
+  pub table-number : (n : Refusal) → TableCase g n → (numberOf n ≤ 7) × (secondOf n ≡ 0)
+  table-number n (case.endsEarly p l h) = omega arith
+  table-number n (case.symbolCount c) = omega arith
+  table-number n (case.ruleCount c) = omega arith
+  table-number n (case.startSymbol c) = omega arith
+  table-number n (case.symbolKind x h c) = omega arith
+  table-number n (case.attributeCount x h c) = omega arith
+  table-number n (case.symbolMask x h c) = omega arith
+  table-number n (case.leftSymbol r h c) = omega arith
+  table-number n (case.rightCount r h c) = omega arith
+  table-number n (case.rightSymbol r i h l c) = omega arith
+  table-number n (case.functionCount r h c) = omega arith
+  table-number n (case.operationNumber r f h c) = omega arith
+  table-number n (case.terminalInherits x h c d) = omega arith
+  table-number n (case.terminalLeft r h c) = omega arith
+  table-number n (case.startTerminal c) = omega arith
+  table-number n (case.startInherits c) = omega arith
+  table-number n (case.targetForeign r f h c) = omega arith
+  table-number n (case.argumentForeign r f j h l c) = omega arith
+  table-number n (case.targetNotDefining r f h c) = omega arith
+  table-number n (case.definedBefore r f j h l e) = omega arith
+  table-number n (case.undefined r o h d c) = omega arith
+  table-number n (case.leftOver c) = omega arith
+
+  pub table-walk : (n : Refusal) → TableCase g n → walk g n ≤ ruleWalk
+  table-walk n c = go (turned g n (table-number n c .0))
+    where
+      go : Turned g n → walk g n ≤ ruleWalk
+      go (inSymbols w e h) = omega arith
+      go (atStart w e h) = omega arith
+      go (inRules w e h) = omega arith
 
   keys-order : (m n : Refusal) → TableCase g m → TableCase g n → Earlier g m n → key g m < key g n
-  keys-order m n c d (earlierWalk l) = absurd (omega (arith, table-walk m c .0, table-walk n d .0))
-  keys-order m n c d (earlierTurn w l) = omega (arith, table-walk m c .1, table-walk n d .1)
-  keys-order m n c d (lowerOccurrence w e l) = absurd (omega (arith, table-walk n d .2))
-  keys-order m n c d (lowerNumber w e s l) = omega arith
+  keys-order m n c d e = go (turned g m (table-number m c .0)) (turned g n (table-number n d .0)) e
+    where
+      small : (numberOf m ≤ 7) × (secondOf n ≡ 0)
+      small = (table-number m c .0, table-number n d .1)
+      go : Turned g m → Turned g n → Earlier g m n → key g m < key g n
+      go (inSymbols w e h) (inSymbols v f l) (earlierPlace a b) = omega (arith, small)
+      go (inSymbols w e h) (inSymbols v f l) (earlierWalk a) = absurd (omega arith)
+      go (inSymbols w e h) (inSymbols v f l) (lowerOccurrence a b k) = absurd (omega (arith, small))
+      go (inSymbols w e h) (inSymbols v f l) (lowerNumber a b c d) = omega arith
+      go (inSymbols w e h) (atStart v f l) x = omega (arith, small)
+      go (inSymbols w e h) (inRules v f l) x = omega (arith, small)
+      go (atStart w e h) (inSymbols v f l) x = absurd (later-walk g m n (omega arith) x)
+      go (atStart w e h) (atStart v f l) (earlierWalk a) = absurd (omega arith)
+      go (atStart w e h) (atStart v f l) (earlierPlace a b) = absurd (omega arith)
+      go (atStart w e h) (atStart v f l) (lowerOccurrence a b k) = absurd (omega (arith, small))
+      go (atStart w e h) (atStart v f l) (lowerNumber a b c d) = omega arith
+      go (atStart w e h) (inRules v f l) x = omega (arith, small, first-rule g)
+      go (inRules w e h) (inSymbols v f l) x = absurd (later-walk g m n (omega arith) x)
+      go (inRules w e h) (atStart v f l) x = absurd (later-walk g m n (omega arith) x)
+      go (inRules w e h) (inRules v f l) (earlierWalk a) = absurd (omega arith)
+      go (inRules w e h) (inRules v f l) (earlierPlace a b) = omega (arith, small)
+      go (inRules w e h) (inRules v f l) (lowerOccurrence a b k) = absurd (omega (arith, small))
+      go (inRules w e h) (inRules v f l) (lowerNumber a b c d) = omega arith
 
   -- The reader's verdict: good exactly if no case of 1 to 7 applies, and refusal n exactly if n is the first that applies.
   pub table-verdict : GoesBy g (TableCase g) (readTable g)

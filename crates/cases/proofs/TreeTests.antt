@@ -3,7 +3,7 @@
 use Prim.Native.Nat.{ℕ, zero, suc, _+_, _*_, _-_, _/_, _%_, _≤_, _<_}
 use mathlib.Core.Path.{_≡_, sym, _∙_, ap, subst, subst⁻¹}
 use mathlib.Core.Logic.{_⊎_, inl, inr, ⊎-elim}
-use mathlib.Core.Bool.{Bool, not}
+use mathlib.Core.Bool.{Bool, cond, not}
 use mathlib.Core.List.{List}
 use native.Mathlib.Omega.{arith}
 use lib.Dec.{T, ltb, leb, eqb, ltb→lt, lt→ltb, leb→le, le→leb, nltb→le, nleb→lt, eqb→eq, T-not, not-T}
@@ -29,7 +29,7 @@ use Rattle.trees.specs.Checking.{
 }
 use Rattle.trees.specs.Formed.{ChildOf}
 use Rattle.trees.proofs.Accepted.{used-slots, used-child, slot-names, names-slot}
-use Rattle.cases.specs.First.{turn, walk, Earlier, earlierWalk, earlierTurn, lowerOccurrence, lowerNumber, GoesBy}
+use Rattle.cases.specs.First.{walk, Earlier, earlierWalk, earlierPlace, lowerOccurrence, lowerNumber, GoesBy}
 use Rattle.cases.specs.Tree.{NamesTerminal, TreeCase}
 use Rattle.cases.specs.Tree as case
 use Rattle.cases.proofs.PassedLaws.{
@@ -47,30 +47,51 @@ count-pair f (suc n) h =
         (w .0, w .1, w .2, omega (arith, w .3), w .4, w .5))
     (tested (f n))
 
--- the order of the cases 12 to 18 as one number: by walk, then by node, 13 before 14
+-- the walk of a case 12 to 18, by its number: 14 is met in the walk of 13
+abbrev step : Refusal → ℕ
+step n = cond (eqb (numberOf n) 14) 13 (numberOf n)
+
+-- the order of these cases as one number: by walk, then by node, 13 before 14
 abbrev pub key : List ℕ → Refusal → ℕ
-key t n = walk n * (2 * nodes t + 2) + 2 * placeOf n + (numberOf n - walk n)
+key t n = step n * (2 * nodes t + 2) + 2 * placeOf n + (numberOf n - step n)
 
 module _ (g t : List ℕ) (l : ℕ) where
   -- Where each case stands in the order.
-  pub tree-walk : (n : Refusal) → TreeCase g t l n
-      → (12 ≤ walk n) × (walk n ≤ numberOf n) × (numberOf n ≤ walk n + 1) × (placeOf n ≤ nodes t) × (secondOf n ≡ 0)
-      × (turn g n ≡ 2 * placeOf n)
-  tree-walk n (case.brokenNode c) = omega arith
-  tree-walk n (case.noNodes c) = omega arith
-  tree-walk n (case.tooManyNodes c) = omega arith
-  tree-walk n (case.unknownWord m h c d) = omega arith
-  tree-walk n (case.childNotAbove m i c w h) = omega (arith, w .inside)
-  tree-walk n (case.childNoNode m i c w h) = omega (arith, w .inside)
-  tree-walk n (case.unusedNotZero m i h a b c) = omega arith
-  tree-walk n (case.rootDiffers c) = omega arith
-  tree-walk n (case.childDiffers m i c w d) = omega (arith, w .inside)
-  tree-walk n (case.neverChild c a h none) = omega arith
-  tree-walk n (case.childTwice c m i q j a h v w d) = omega arith
-  tree-walk n (case.fewValues c) = omega arith
+  pub record Place (n : Refusal) : Type 0 where
+    pub late : 8 ≤ walk g n
+    pub bounds : (step n ≤ numberOf n) × (numberOf n ≤ step n + 1)
+    pub node : placeOf n ≤ nodes t
+    pub single : secondOf n ≡ 0
+    pub walkIs : ((walk g n ≤ 9) × (step n ≡ walk g n + 4)) ⊎ ((10 ≤ walk g n) × (step n ≡ walk g n + 5))
+
+  pub tree-place : (n : Refusal) → TreeCase g t l n → Place n
+  tree-place n (case.brokenNode c) =
+      record { late = omega arith; bounds = omega arith; node = omega arith; single = omega arith; walkIs = inl (omega arith) }
+  tree-place n (case.noNodes c) =
+      record { late = omega arith; bounds = omega arith; node = omega arith; single = omega arith; walkIs = inl (omega arith) }
+  tree-place n (case.tooManyNodes c) =
+      record { late = omega arith; bounds = omega arith; node = omega arith; single = omega arith; walkIs = inl (omega arith) }
+  tree-place n (case.unknownWord m h c d) =
+      record { late = omega arith; bounds = omega arith; node = omega arith; single = omega arith; walkIs = inl (omega arith) }
+  tree-place n (case.childNotAbove m i c w h) =
+      record { late = omega arith; bounds = omega arith; node = omega (arith, w .inside); single = omega arith; walkIs = inl (omega arith) }
+  tree-place n (case.childNoNode m i c w h) =
+      record { late = omega arith; bounds = omega arith; node = omega (arith, w .inside); single = omega arith; walkIs = inl (omega arith) }
+  tree-place n (case.unusedNotZero m i h a b c) =
+      record { late = omega arith; bounds = omega arith; node = omega arith; single = omega arith; walkIs = inl (omega arith) }
+  tree-place n (case.rootDiffers c) =
+      record { late = omega arith; bounds = omega arith; node = omega arith; single = omega arith; walkIs = inr (omega arith) }
+  tree-place n (case.childDiffers m i c w d) =
+      record { late = omega arith; bounds = omega arith; node = omega (arith, w .inside); single = omega arith; walkIs = inr (omega arith) }
+  tree-place n (case.neverChild c a h none) =
+      record { late = omega arith; bounds = omega arith; node = omega arith; single = omega arith; walkIs = inr (omega arith) }
+  tree-place n (case.childTwice c m i q j a h v w d) =
+      record { late = omega arith; bounds = omega arith; node = omega arith; single = omega arith; walkIs = inr (omega arith) }
+  tree-place n (case.fewValues c) =
+      record { late = omega arith; bounds = omega arith; node = omega arith; single = omega arith; walkIs = inr (omega arith) }
 
 module _ (g t : List ℕ) (l : ℕ) (table : WellFormed g) where
-  abbrev C : Refusal → Type 0
+  abbrev C : Refusal → Type 1
   C = TreeCase g t l
 
   -- a word that is known names a rule or a terminal
@@ -277,7 +298,7 @@ module _ (g t : List ℕ) (l : ℕ) (table : WellFormed g) where
       (omega arith, omega arith)
 
   -- The parts of the check, and what each leaves for the next.
-  abbrev In : Verdict → ℕ → Type 0
+  abbrev In : Verdict → ℕ → Type 1
   In v end = Within C (key t) v end
 
   abbrev Past : Verdict → ℕ → Type 0
@@ -439,19 +460,23 @@ module _ (g t : List ℕ) (l : ℕ) (table : WellFormed g) where
       d (one-slot (nodes-known (all-known k (omega arith) p)) c m i q j a (past-once c k h (omega arith) p) v w)
   tested-at n (case.fewValues c) p = let v = past-values (key t ValuesTooShort) (omega arith) p in omega arith
 
+  later-step : (m n : Refusal) → Place g t l m → Place g t l n → walk g m < walk g n → step m < step n
+  later-step m n x y s = ⊎-elim (λ u. ⊎-elim (λ v. omega arith) (λ v. omega arith) (y .walkIs)) (λ u. ⊎-elim (λ v. absurd (omega arith)) (λ v. omega arith) (y .walkIs)) (x .walkIs)
+
+  same-step : (m n : Refusal) → Place g t l m → Place g t l n → walk g m ≡ walk g n → step m ≡ step n
+  same-step m n x y s =
+      ⊎-elim (λ u. ⊎-elim (λ v. omega arith) (λ v. absurd (omega arith)) (y .walkIs)) (λ u. ⊎-elim (λ v. absurd (omega arith)) (λ v. omega arith) (y .walkIs)) (x .walkIs)
+
   keys-order : (m n : Refusal) → C m → C n → Earlier g m n → key t m < key t n
-  keys-order m n c d (earlierWalk s) =
-      let x = tree-walk g t l m c in
-      omega (arith, block-inside (2 * nodes t + 2) (walk m) (2 * placeOf m + (numberOf m - walk m)) (walk n) s (omega (arith, x .2, x .3)))
-  keys-order m n c d (earlierTurn w s) =
-      let x = tree-walk g t l m c in
-      let y = tree-walk g t l n d in
-      omega (arith, ap (λ (k : ℕ). k * (2 * nodes t + 2)) w, x .1, x .2, x .5, y .5)
-  keys-order m n c d (lowerOccurrence w e s) = absurd (omega (arith, tree-walk g t l n d .4))
-  keys-order m n c d (lowerNumber w e u s) =
-      let x = tree-walk g t l m c in
-      let y = tree-walk g t l n d in
-      omega (arith, ap (λ (k : ℕ). k * (2 * nodes t + 2)) w, x .1, y .1, x .5, y .5)
+  keys-order m n c d e = go (tree-place g t l m c) (tree-place g t l n d) e
+    where
+      go : Place g t l m → Place g t l n → Earlier g m n → key t m < key t n
+      go x y (earlierWalk s) =
+          omega (arith, block-inside (2 * nodes t + 2) (step m) (2 * placeOf m + (numberOf m - step m)) (step n) (later-step m n x y s)
+          (omega (arith, x .bounds, x .node)))
+      go x y (earlierPlace w s) = omega (arith, ap (λ (k : ℕ). k * (2 * nodes t + 2)) (same-step m n x y w), x .bounds)
+      go x y (lowerOccurrence w e s) = absurd (omega (arith, y .single))
+      go x y (lowerNumber w e u s) = omega (arith, ap (λ (k : ℕ). k * (2 * nodes t + 2)) (same-step m n x y w), same-step m n x y w, x .bounds, y .bounds)
 
   -- The verdict on a tree: good exactly if no case of 12 to 18 applies, and refusal n exactly if n is the first that applies.
   pub tree-verdict : GoesBy g C (checkTree g t l)

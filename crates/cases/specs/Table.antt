@@ -19,7 +19,7 @@ pub record HasFunction (g : List ℕ) (r k : ℕ) : Type 0 where
   pub ruleInside : r < rules g
   pub functionInside : k < functions g r
 
-pub data TableCase (g : List ℕ) : Refusal → Type 0 where
+pub data TableCase (g : List ℕ) : Refusal → Type 1 where
   -- 1: "the words end too early", at "index of the missing word". Rule R would start where the table is to end.
   endsEarly : (p : ℕ) → length g ≤ p → p < ruleAt g (rules g) → TableCase g (EndsEarly p)
 

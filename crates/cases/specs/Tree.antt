@@ -20,7 +20,7 @@ pub record NamesTerminal (g : List ℕ) (w : ℕ) : Type 0 where
   pub marked : w ≡ terminalMark + symbol
 
 -- The tree's words are t, and there is room for so many values. `ChildOf g t n i c` says that slot i of node n is used and names c.
-pub data TreeCase (g t : List ℕ) (valuesLength : ℕ) : Refusal → Type 0 where
+pub data TreeCase (g t : List ℕ) (valuesLength : ℕ) : Refusal → Type 1 where
   -- 12: "tree words not a multiple of 8, or no nodes, or over 1,024"
   brokenNode : ¬ (length t % 8 ≡ 0) → TreeCase g t valuesLength TreeSize
   noNodes : nodes t ≡ 0 → TreeCase g t valuesLength TreeSize

@@ -1,148 +1,220 @@
--- The three demands on the build, each with its proof. They are about the definitions; the contracts of `plan` and `run` say that the code
--- equals these. g is a table's words, rows and plan are the lent words, t a tree's words, v the lent values. Assumes nothing.
-use Prim.Native.Nat.{ℕ, _+_, _*_, _≤_, _<_, min}
-use mathlib.Core.Path.{_≡_, subst⁻¹}
-use mathlib.Core.Logic.{_⊎_, _↔_}
-use mathlib.Core.Bool.{Bool, not}
+-- The code meets the three demands: whatever `plan` or `run` may answer and leave by its contract meets them, on every input, and for each
+-- input its contract is met by one answer and one content of the buffers. Assumes nothing.
+use Prim.Native.Nat.{ℕ, _≤_}
+use mathlib.Core.Path.{_≡_, refl, sym, _∙_, ap, subst, subst⁻¹}
 use mathlib.Core.List.{List}
-use lib.Dec.{T, lt→ltb}
+use native.Mathlib.Omega.{arith}
+use lib.Dec.{T}
 use lib.IntN.{ℤ}
 use lib.ListN.{length}
-use Rattle.basics.specs.Lists.{word}
-use Rattle.bits.specs.Bit.{hasb}
 use Rattle.refusals.specs.declared.Refusal.{Refusal}
-use Rattle.refusals.specs.declared.Refusal.the-variants.{Stuck}
-use Rattle.refusals.specs.Numbers.{numberOf}
+use Rattle.grammar.specs.Limits.{rowWords, planWords}
+use Rattle.grammar.specs.declared.Verdict.{Verdict}
 use Rattle.grammar.specs.declared.Verdict.the-variants.{Good}
-use Rattle.grammar.specs.Table.{symbols, rules, kind, functions, target, argument, arguments, position}
+use Rattle.grammar.specs.Table.{rules, ruleCounts}
 use Rattle.grammar.specs.Reading.{readTable}
-use Rattle.relations.specs.Paper.{IDS, IDP⁺, Path⁺}
-use Rattle.relations.specs.Computed.{idsOf}
-use Rattle.relations.proofs.Exact.{idp-path-exact}
-use Rattle.sets.specs.Paper.{Sets}
-use Rattle.sets.specs.Computed.{setsOfSymbol, setsOf}
-use Rattle.ordered.specs.Paper.{CircularIDP, EDP}
-use Rattle.ordered.proofs.Exact.{edp-path-exact}
-use Rattle.ordered.proofs.PaperSets.{paper-sets}
-use Rattle.sequences.specs.Actions.{actionsOf}
-use Rattle.sequences.specs.Follows.{follows}
-use Rattle.sequences.proofs.OrderLaws.{TieRule}
-use Rattle.sequences.proofs.SequenceLaws.{sequence-tie}
+use Rattle.grammar.specs.WellFormed.{WellFormed}
+use Rattle.grammar.proofs.Formed.{accepted-exactly as read-exactly}
+use Rattle.ordered.specs.Paper.{IsOrdered}
+use Rattle.ordered.proofs.WholeGrammar.{computedSets, one-numbering, ordered-idp, sets-exist, neighbouring-same}
+use Rattle.sequences.specs.Paper.{Sequence}
+use Rattle.sequences.proofs.PaperSequence.{sequence-obeys, sequence-only, none-left-out}
 use Rattle.planning.specs.declared.Planned as P
-use Rattle.planning.specs.Buffers.{over, rowsOf}
-use Rattle.planning.specs.Answer.{accepted, outcome, room, idpPaths, edpPaths, sequencesOf, answerOf, rowsAfter, planAfter}
-use Rattle.planning.proofs.Ordered.{IsOrdered, accepted-exactly}
-use Rattle.closing.specs.Rows.{leads}
-use Rattle.inducing.proofs.RowLaws.{over-leads}
-use Rattle.planner.proofs.Unique as planner
-use Rattle.trees.specs.Tree.{ruleOf, appliesRule, nodeAt, cell}
+use Rattle.planning.specs.Answer.{Outcome, accepted, outcome, room, answerOf, rowsAfter, planAfter}
+use Rattle.planning.proofs.Ordered.{accepted-exactly, ordered-free}
+use Rattle.planning.proofs.Left.{accepted-written}
+use Rattle.planning.proofs.Stays.{accepted-room, rows-stay, plan-stay}
+use Rattle.planner.proofs.Unique.{Answered}
+use Rattle.planner.proofs.RoomLaws.{both-long}
 use Rattle.trees.specs.Checking.{checkTree}
-use Rattle.trees.specs.Equations.{valueAt, Solution, SameTerminals}
-use Rattle.trees.specs.Definers.{AttributeOf}
+use Rattle.trees.proofs.Accepted.{accepted-tree}
 use Rattle.running.specs.declared.Ran as R
 use Rattle.running.specs.Sound.{Sound}
-use Rattle.running.specs.Depth.{longestDown}
-use Rattle.running.specs.Computing.{machineAt, Computing, ComputedBefore, ExactlyOnce}
-use Rattle.running.specs.Run.{ran, total}
+use Rattle.running.specs.Automaton.{Machine}
+use Rattle.running.specs.Run.{ran, totalOf, total, runAnswer, valuesAfter}
 use Rattle.running.proofs.PlannedSound.{planned-sound}
+use Rattle.running.proofs.Totals.{total-stands}
 use Rattle.running.proofs.EverySoundPlan as run
-use Rattle.runner.specs.Whole.{came, answer, values}
+use Rattle.runner.specs.Whole as whole
 use Rattle.runner.proofs.Unique as runner
-use Rattle.cases.specs.All.{PlanRefuses, Refuses}
-use Rattle.cases.proofs.Refusals.{planning-refused, run-refused, never-eleven}
-use Rattle.cases.proofs.Leaves.{early-leaves, nine-leaves, ten-leaves, tree-late, values-stay}
+use Rattle.cases.specs.First.{readyWalk, walk}
+use Rattle.cases.specs.Planning.{PlanCase}
+use Rattle.cases.specs.Tree.{TreeCase}
+use Rattle.cases.specs.All.{RunCase, inPlan, inTree, PlanRefuses, Refuses}
+use Rattle.cases.proofs.TreeTests.{tree-place}
+use Rattle.cases.proofs.PlanTests.{plan-walk}
+use Rattle.cases.proofs.Refusals.{outcome-accepted, planning-refused, planning-accepted, tree-good, run-refused}
+use Rattle.cases.proofs.Leaves.{tree-late, values-stay}
+use Rattle.demands.specs.Demands.{Demand1, Demand1Run, Demand2, Demand3}
+use Rattle.demands.proofs.LeavesLaws.{accepted-read, written-accepted, leaves-of}
 
--- 1. "Every table, tree and buffer size gets an answer. Input is refused exactly where a numbered case applies, by that number at a
--- stated place, and what each refusal leaves in the caller's buffers is fixed."
-pub record Demand1 (g rows plan t : List ℕ) (v : List ℤ) (budget : ℕ) : Type 0 where
-  -- the contract of `plan` is met by one answer and one content of the buffers, and so is that of `run`
-  pub onePlan : (a b : P.Planned) (rows₁ plan₁ rows₂ plan₂ : List ℕ) → planner.Answered g rows plan a rows₁ plan₁
-      → planner.Answered g rows plan b rows₂ plan₂ → (a ≡ b) × (rows₁ ≡ rows₂) × (plan₁ ≡ plan₂)
-  pub oneRun : (a b : R.Ran) (v₁ : List ℤ) (rows₁ plan₁ : List ℕ) (v₂ : List ℤ) (rows₂ plan₂ : List ℕ)
-      → runner.Answered g rows plan t v budget a v₁ rows₁ plan₁ → runner.Answered g rows plan t v budget b v₂ rows₂ plan₂
-      → (a ≡ b) × (v₁ ≡ v₂) × (rows₁ ≡ rows₂) × (plan₁ ≡ plan₂)
-  -- planning refuses with the first of the cases 1 to 11 that applies, a run with the first of 1 to 18 (cases/specs)
-  pub planRefuses : (n : Refusal) → (answerOf g (came g rows plan) ≡ P.the-variants.Refused n) ↔ PlanRefuses g (length rows) (length plan) n
-  pub runRefuses : (n : Refusal)
-      → (answer g rows plan t v budget ≡ R.the-variants.Refused n) ↔ Refuses g (length rows) (length plan) t (length v) n
-  -- "1 to 8 change nothing. 9 leaves IDP paths in the rows; 10 and 11 leave EDP paths; the plan is then as it was found."
-  pub nothingChanged : (n : Refusal) → PlanRefuses g (length rows) (length plan) n → numberOf n ≤ 8
-      → (rowsAfter g (came g rows plan) rows ≡ rows) × (planAfter g (came g rows plan) plan ≡ plan)
-  pub idpLeft : (n : Refusal) → PlanRefuses g (length rows) (length plan) n → numberOf n ≡ 9
-      → (rowsAfter g (came g rows plan) rows ≡ over (rowsOf g (idpPaths g (idsOf g))) rows) × (planAfter g (came g rows plan) plan ≡ plan)
-  pub edpLeft : (n : Refusal) → PlanRefuses g (length rows) (length plan) n → 10 ≤ numberOf n
-      → (rowsAfter g (came g rows plan) rows ≡ over (rowsOf g (edpPaths g (idsOf g) (setsOf g (idsOf g)))) rows)
-      × (planAfter g (came g rows plan) plan ≡ plan)
-  -- "12 to 18 come after planning has written rows and plan, and leave the values"
-  pub written : (n : Refusal) → Refuses g (length rows) (length plan) t (length v) n → 12 ≤ numberOf n → came g rows plan ≡ accepted
-  pub valuesStay : (n : Refusal) → Refuses g (length rows) (length plan) t (length v) n → values g rows plan t v budget ≡ v
+module _ (g rows plan : List ℕ) where
+  abbrev came : Outcome
+  came = outcome g (length rows) (length plan)
 
-pub demand-1 : (g rows plan t : List ℕ) (v : List ℤ) (budget : ℕ) → Demand1 g rows plan t v budget
-unfolding came
-demand-1 g rows plan t v budget =
+  computed-1 : Demand1 g rows plan (answerOf g came) (rowsAfter g came rows) (planAfter g came plan)
+  computed-1 =
+      record {
+          refuses = planning-refused g (length rows) (length plan);
+          accepts = planning-accepted g (length rows) (length plan);
+          leaves = λ n e.
+              let f : PlanRefuses g (length rows) (length plan) n = planning-refused g (length rows) (length plan) n .0 e in
+              leaves-of g rows plan n (λ h. f)
+              (λ h. absurd (omega (arith, plan-walk g (length rows) (length plan) n (f .applies))));
+          stays = record { rowsBeyond = rows-stay g rows plan; planBeyond = plan-stay g rows plan }
+      }
+
+  -- Demand 1, of `plan`.
+  pub demand-1 : (answer : P.Planned) (rows′ plan′ : List ℕ) → Answered g rows plan answer rows′ plan′ → Demand1 g rows plan answer rows′ plan′
+  demand-1 answer rows′ plan′ w =
+      subst⁻¹ (λ (a : P.Planned). Demand1 g rows plan a rows′ plan′) (w .answers)
+      (subst⁻¹ (λ (x : List ℕ). Demand1 g rows plan (answerOf g came) x plan′) (w .rowsAre)
+      (subst⁻¹ (λ (x : List ℕ). Demand1 g rows plan (answerOf g came) (rowsAfter g came rows) x) (w .planIs) computed-1))
+
+  -- Demand 2. "A well-formed table given enough room": "at least 64R", "at least 256 + 112R".
+  module _ (formed : WellFormed g) (rowsRoom : rowWords (rules g) ≤ length rows) (planRoom : planWords (rules g) ≤ length plan) where
+    good : readTable g ≡ Good
+    good = read-exactly g .1 formed
+
+    space : room g (length rows) (length plan) ≡ Good
+    space = sym (both-long g (length rows) (length plan) (rules g) refl rowsRoom planRoom)
+
+    ordered-came : IsOrdered g → came ≡ accepted
+    ordered-came o = accepted-exactly g good (length rows) (length plan) space .1 o
+
+    computed-2 : Demand2 g (answerOf g came) (rowsAfter g came rows) (planAfter g came plan)
+    unfolding planAfter
+    computed-2 =
+        record {
+            acceptedExactly =
+                (λ e.
+                    accepted-exactly g good (length rows) (length plan) space .0
+                    (outcome-accepted g (length rows) (length plan) .1 (planning-accepted g (length rows) (length plan) (planWords (rules g)) .0 e .1)),
+                λ o.
+                    planning-accepted g (length rows) (length plan) (planWords (rules g)) .1
+                    (refl, outcome-accepted g (length rows) (length plan) .0 (ordered-came o)));
+            written = λ o set sets. written-accepted g rows plan (ordered-came o) set sets;
+            setsExist = λ free. (computedSets g, sets-exist g good free);
+            oneNumbering = one-numbering g;
+            neighbouring = λ free set sets. neighbouring-same g good free set sets;
+            sequence = λ o r c. (_, sequence-obeys g good (ordered-idp g formed o) (o .set) (o .areSets) r c);
+            oneSequence = λ o r c s t v w.
+                let only = sequence-only g good (ordered-idp g formed o) (o .set) (o .areSets) r c in only s v ∙ sym (only t w);
+            noneLeftOut = λ o r c. none-left-out g good o (o .set) (o .areSets) r c;
+            sound = λ o.
+                let f = ordered-free g good o in
+                subst⁻¹ (λ (x : Outcome). Sound g (planAfter g x plan)) (ordered-came o) (planned-sound g good plan (f .noIdpCycle) (f .noEdpCycle))
+        }
+
+    pub demand-2 : (answer : P.Planned) (rows′ plan′ : List ℕ) → Answered g rows plan answer rows′ plan′ → Demand2 g answer rows′ plan′
+    demand-2 answer rows′ plan′ w =
+        subst⁻¹ (λ (a : P.Planned). Demand2 g a rows′ plan′) (w .answers)
+        (subst⁻¹ (λ (x : List ℕ). Demand2 g (answerOf g came) x plan′) (w .rowsAre)
+        (subst⁻¹ (λ (x : List ℕ). Demand2 g (answerOf g came) (rowsAfter g came rows) x) (w .planIs) computed-2))
+
+-- Demand 3 for every sound plan, whoever drew it up, and every tree to which no case of 12 to 18 applies.
+pub demand-3-sound : (g p t : List ℕ) (v : List ℤ) (budget : ℕ) → WellFormed g → Sound g p → ((n : Refusal) → ¬ TreeCase g t (length v) n)
+    → Demand3 g p t v budget (total p t) (ran g p t v budget .answer) (ran g p t v budget .machine .values)
+demand-3-sound g p t v budget formed sound none =
+    let good : readTable g ≡ Good = read-exactly g .1 formed in
+    let tree : checkTree g t (length v) ≡ Good = tree-good g t (length v) good .1 none in
     record {
-        onePlan = planner.one-answer g rows plan; oneRun = runner.one-answer g rows plan t v budget;
-        planRefuses = planning-refused g (length rows) (length plan); runRefuses = run-refused g rows plan t v budget;
-        nothingChanged = early-leaves g rows plan; idpLeft = nine-leaves g rows plan; edpLeft = ten-leaves g rows plan;
-        written = tree-late g rows plan t v budget; valuesStay = values-stay g rows plan t v budget
-    }
-
--- 2. "The dependency relations, sets and visit-sequences are those of the 1980 paper, ties to the lowest action number. A well-formed
--- table given enough room is accepted exactly if the paper calls it ordered."
-pub record Demand2 (g rows plan : List ℕ) : Type 1 where
-  pub acceptedExactly : (outcome g (length rows) (length plan) ≡ accepted) ↔ IsOrdered g
-  -- an action is always ready until a sequence is complete
-  pub neverEleven : (r : ℕ) → ¬ PlanRefuses g (length rows) (length plan) (Stuck r)
-  -- bit b of row 64r + o: a path from o to b in IDP, as 9 leaves it, and in EDP
-  pub idp : (r o b : ℕ) → r < rules g → o < 64 → b < 64 → T (hasb b (word (over (rowsOf g (idpPaths g (idsOf g))) rows) (64 * r + o))) ↔ IDP⁺ g r o b
-  pub edp : (r o b : ℕ) → r < rules g → o < 64 → b < 64
-      → T (hasb b (word (over (rowsOf g (edpPaths g (idsOf g) (setsOf g (idsOf g)))) rows) (64 * r + o))) ↔ Path⁺ (EDP g (setsOf g (idsOf g)) r) o b
-  pub sets : ¬ CircularIDP g → (x : ℕ) → x < symbols g → kind g x ≡ 0 → Sets g x (IDS g x) (λ a. word (setsOfSymbol g (idsOf g) x) a)
-  -- "The next action is always the lowest-numbered one whose predecessors are done."
-  pub ties : (r : ℕ) → TieRule (λ a b. follows g (idsOf g) (setsOf g (idsOf g)) r a b) (actionsOf g (setsOf g (idsOf g)) r) (sequencesOf g r)
-  -- whatever the planner writes is sound
-  pub sound : IsOrdered g → Sound g (planAfter g accepted plan)
-
-pub demand-2 : (g rows plan : List ℕ) → readTable g ≡ Good → room g (length rows) (length plan) ≡ Good → Demand2 g rows plan
-unfolding leads idpPaths edpPaths sequencesOf planAfter
-demand-2 g rows plan good space =
-    record {
-        acceptedExactly = accepted-exactly g good (length rows) (length plan) space; neverEleven = never-eleven g (length rows) (length plan);
-        idp = λ r o b h l m.
-            subst⁻¹ (λ (c : Bool). T c ↔ IDP⁺ g r o b) (over-leads g (idpPaths g (idsOf g)) rows r o b h l m)
-            (idp-path-exact g good r o b (lt→ltb r (rules g) h));
-        edp = λ r o b h l m.
-            subst⁻¹ (λ (c : Bool). T c ↔ Path⁺ (EDP g (setsOf g (idsOf g)) r) o b)
-            (over-leads g (edpPaths g (idsOf g) (setsOf g (idsOf g))) rows r o b h l m)
-            (edp-path-exact g good (setsOf g (idsOf g)) r (lt→ltb r (rules g) h) o b);
-        sets = paper-sets g good; ties = sequence-tie g (idsOf g) (setsOf g (idsOf g));
-        sound = λ o. planned-sound g good plan (o .noIdpCycle) (o .noEdpCycle)
-    }
-
--- 3. For every sound plan p and accepted tree: "a run takes exactly as many actions as the lengths of its nodes' rules' sequences add up
--- to. Each attribute of each nonterminal node is computed once, after all its arguments, and the values are the only ones that satisfy the
--- equations for the terminals' values given. A smaller budget stops after exactly that many actions of the same run."
-pub record Demand3 (g p t : List ℕ) (v : List ℤ) : Type 0 where
-  pub done : (budget : ℕ) → total p t ≤ budget → ran g p t v budget .answer ≡ R.the-variants.Done (total p t)
-  pub stopped : (budget : ℕ) → budget < total p t → ran g p t v budget .answer ≡ R.the-variants.Stopped budget
-  pub sameRun : (budget : ℕ) → ran g p t v budget .machine ≡ machineAt g p t v (min budget (total p t))
-  pub once : (n a : ℕ) → T (appliesRule t n) → AttributeOf g t n a → ExactlyOnce g p t v (total p t) (8 * n + a)
-  pub afterArguments : (k n o f j : ℕ) → Computing g p t v k n o → f < functions g (ruleOf t n) → target g (ruleOf t n) f ≡ o
-      → j < arguments g (ruleOf t n) f → T (not (appliesRule t (nodeAt t n (position (argument g (ruleOf t n) f j)))))
-      ⊎ ComputedBefore g p t v k (cell t n (argument g (ruleOf t n) f j))
-  pub solves : (budget : ℕ) → total p t ≤ budget → Solution g t (ran g p t v budget .machine .values)
-  pub onlyOnes : (budget : ℕ) → total p t ≤ budget → (w : List ℤ) → Solution g t w → SameTerminals g t w v → (n a : ℕ) → AttributeOf g t n a
-      → valueAt w (8 * n + a) ≡ valueAt (ran g p t v budget .machine .values) (8 * n + a)
-  pub terminalsStay : (budget : ℕ) → SameTerminals g t (ran g p t v budget .machine .values) v
-  -- "The stack never exceeds the number of nonterminals on the longest path down."
-  pub stackBound : (k : ℕ) → length (machineAt g p t v k .stack) ≤ longestDown g t
-
-pub demand-3 : (g p t : List ℕ) (v : List ℤ) → readTable g ≡ Good → Sound g p → checkTree g t (length v) ≡ Good → Demand3 g p t v
-demand-3 g p t v good sound tree =
-    record {
-        done = run.run-done g p t v good sound tree; stopped = run.run-stopped g p t v good sound tree;
-        sameRun = run.run-machine g p t v good sound tree; once = run.attribute-once g p t v good sound tree;
-        afterArguments = run.arguments-before g p t v good sound tree; solves = run.run-solves g p t v good sound tree;
-        onlyOnes = run.run-only g p t v good sound tree; terminalsStay = run.run-terminals g p t v good sound tree;
+        done = run.run-done g p t v good sound tree budget; stopped = run.run-stopped g p t v good sound tree budget;
+        sameRun = ap (λ (m : Machine). m .values) (run.run-machine g p t v good sound tree budget);
+        once = run.attribute-once g p t v good sound tree; afterArguments = run.arguments-before g p t v good sound tree;
+        solves = run.run-solves g p t v good sound tree budget; onlyOnes = run.run-only g p t v good sound tree budget;
+        asMany = run.run-length g p t v good sound tree budget; others = run.run-others g p t v good sound tree budget;
         stackBound = run.stack-bound g p t v good sound tree
     }
+
+module _ (g rows plan t : List ℕ) (v : List ℤ) (budget : ℕ) where
+  abbrev reached : Outcome
+  reached = outcome g (length rows) (length plan)
+
+  -- a case of planning is the first of all cases exactly where it is the first of planning's
+  plan-first : (n : Refusal) → Refuses g (length rows) (length plan) t (length v) n → walk g n ≤ readyWalk → PlanRefuses g (length rows) (length plan) n
+  plan-first n f h = record { applies = of-plan (f .applies); noEarlier = λ m c. f .noEarlier m (inPlan c) }
+    where
+      of-plan : RunCase g (length rows) (length plan) t (length v) n → PlanCase g (length rows) (length plan) n
+      of-plan (inPlan c) = c
+      of-plan (inTree c) = absurd (omega (arith, tree-place g t (length v) n c .late))
+
+  computed-1-run : Demand1Run g rows plan t v (whole.answer g rows plan t v budget) (whole.values g rows plan t v budget)
+      (rowsAfter g reached rows) (planAfter g reached plan)
+  computed-1-run =
+      record {
+          refuses = run-refused g rows plan t v budget;
+          leaves = λ n e.
+              let f = run-refused g rows plan t v budget n .0 e in
+              leaves-of g rows plan n (plan-first n f) (tree-late g rows plan t v budget n f);
+          valuesStay = λ n e. values-stay g rows plan t v budget n (run-refused g rows plan t v budget n .0 e);
+          stays = record { rowsBeyond = rows-stay g rows plan; planBeyond = plan-stay g rows plan }
+      }
+
+  -- Demand 1, of `run`.
+  pub demand-1-run : (ran : R.Ran) (v′ : List ℤ) (rows′ plan′ : List ℕ) → runner.Answered g rows plan t v budget ran v′ rows′ plan′
+      → Demand1Run g rows plan t v ran v′ rows′ plan′
+  unfolding whole.came
+  demand-1-run ran v′ rows′ plan′ w =
+      subst⁻¹ (λ (a : R.Ran). Demand1Run g rows plan t v a v′ rows′ plan′) (w .answers)
+      (subst⁻¹ (λ (x : List ℤ). Demand1Run g rows plan t v (whole.answer g rows plan t v budget) x rows′ plan′) (w .valuesAre)
+      (subst⁻¹ (λ (x : List ℕ). Demand1Run g rows plan t v (whole.answer g rows plan t v budget) (whole.values g rows plan t v budget) x plan′) (w .rowsAre)
+      (subst⁻¹ (λ (x : List ℕ). Demand1Run g rows plan t v (whole.answer g rows plan t v budget) (whole.values g rows plan t v budget) (rowsAfter g reached rows) x)
+      (w .planIs) computed-1-run)))
+
+  -- Demand 3, of `run`, where no case of 1 to 18 applies. The total is summed over the tie rule's sequences.
+  module _ (none : (n : Refusal) → ¬ RunCase g (length rows) (length plan) t (length v) n) where
+    is-accepted : reached ≡ accepted
+    is-accepted = outcome-accepted g (length rows) (length plan) .1 (λ n c. none n (inPlan c))
+
+    is-read : readTable g ≡ Good
+    is-read = accepted-read g rows plan is-accepted
+
+    is-tree : checkTree g t (length v) ≡ Good
+    is-tree = tree-good g t (length v) is-read .1 (λ n c. none n (inTree c))
+
+    has-room : room g (length rows) (length plan) ≡ Good
+    has-room = accepted-room g (length rows) (length plan) is-accepted
+
+    -- the grammar is ordered
+    pub run-ordered : IsOrdered g
+    run-ordered = accepted-exactly g is-read (length rows) (length plan) has-room .0 is-accepted
+
+    abbrev p : List ℕ
+    p = planAfter g accepted plan
+
+    planned : Sound g p
+    unfolding planAfter
+    planned = let f = ordered-free g is-read run-ordered in planned-sound g is-read plan (f .noIdpCycle) (f .noEdpCycle)
+
+    -- what is answered and left is what a run of that plan answers and leaves
+    is-run : (ran′ : R.Ran) (v′ : List ℤ) (rows′ plan′ : List ℕ) → runner.Answered g rows plan t v budget ran′ v′ rows′ plan′
+        → (plan′ ≡ p) × (ran′ ≡ ran g p t v budget .answer) × (v′ ≡ ran g p t v budget .machine .values)
+    unfolding whole.came whole.answer whole.values runAnswer valuesAfter
+    is-run ran′ v′ rows′ plan′ w =
+        let left : planAfter g reached plan ≡ p = ap (λ (o : Outcome). planAfter g o plan) is-accepted in
+        (w .planIs ∙ left,
+        w .answers
+        ∙ (ap (λ (x : List ℕ). runAnswer g x t reached (checkTree g t (length v)) v budget) left
+        ∙ (ap (λ (o : Outcome). runAnswer g p t o (checkTree g t (length v)) v budget) is-accepted
+        ∙ ap (λ (c : Verdict). runAnswer g p t accepted c v budget) is-tree)),
+        w .valuesAre
+        ∙ (ap (λ (x : List ℕ). valuesAfter g x t reached (checkTree g t (length v)) v budget) left
+        ∙ (ap (λ (o : Outcome). valuesAfter g p t o (checkTree g t (length v)) v budget) is-accepted
+        ∙ ap (λ (c : Verdict). valuesAfter g p t accepted c v budget) is-tree)))
+
+    pub demand-3 : (ran′ : R.Ran) (v′ : List ℤ) (rows′ plan′ : List ℕ) → runner.Answered g rows plan t v budget ran′ v′ rows′ plan′
+        → (o : IsOrdered g) (sequence : ℕ → List ℕ) → ((r : ℕ) → T (ruleCounts g r) → Sequence g (o .set) r (sequence r))
+        → Demand3 g plan′ t v budget (totalOf sequence t) ran′ v′
+    demand-3 ran′ v′ rows′ plan′ w o sequence are =
+        let e = is-run ran′ v′ rows′ plan′ w in
+        let formed : WellFormed g = read-exactly g .0 is-read in
+        let added : total p t ≡ totalOf sequence t =
+                total-stands g p t (length v) (accepted-tree g t (length v) formed is-tree) sequence
+                (λ r c.
+                    accepted-written g is-read (ordered-idp g formed o) (o .set) (o .areSets) rows plan .sequence r c (sequence r) (are r c)) in
+        subst⁻¹ (λ (x : List ℕ). Demand3 g x t v budget (totalOf sequence t) ran′ v′) (e .0)
+        (subst⁻¹ (λ (a : R.Ran). Demand3 g p t v budget (totalOf sequence t) a v′) (e .1)
+        (subst⁻¹ (λ (x : List ℤ). Demand3 g p t v budget (totalOf sequence t) (ran g p t v budget .answer) x) (e .2)
+        (subst (λ (n : ℕ). Demand3 g p t v budget n (ran g p t v budget .answer) (ran g p t v budget .machine .values)) added
+        (demand-3-sound g p t v budget formed planned (λ n c. none n (inTree c))))))

@@ -1,1 +1,2 @@
+pub mod LeavesLaws
 pub mod Demands

@@ -23,7 +23,7 @@ use Rattle.trees.specs.Equations.{argumentValue, functionValue}
 use Rattle.trees.specs.Tree.{usedSlots, symbolAtNode, nodeAt, cell}
 use Rattle.running.specs.Automaton.{started, functionFor, computed, act, actionOf, stepOn, step, after}
 use Rattle.running.specs.Run.{idle, lastAnswer, runOn, ran, totalUpTo, total, runAnswer, valuesAfter}
-use Rattle.running.specs.Sequences.{sequenceLength, actionAt}
+use Rattle.planning.specs.Sequences.{sequenceLength, actionAt}
 use Rattle.text.specs.Lines.{digits, decimal, spaced, line}
 use Rattle.text.specs.Listing.{refusalLine, firstLine, symbolLine, ruleLine, planText, outcomeText, tableText, wordsOf, bytesText, listing}
 use Rattle.examples.specs.Claims.{planned, ranG}

@@ -22,7 +22,7 @@ use Rattle.trees.specs.Tree.{nodes, ruleOf, appliesRule, child, cell}
 use Rattle.trees.specs.Checking.{checkTree}
 use Rattle.trees.proofs.Cells.{cell-inside}
 use Rattle.running.specs.declared.Ran as R
-use Rattle.running.specs.Sequences.{actionAt}
+use Rattle.planning.specs.Sequences.{actionAt}
 use Rattle.running.specs.Sound.{Sound}
 use Rattle.running.specs.Automaton.{Machine, started, functionFor, act, step, after}
 use Rattle.running.specs.Run.{ran, total}

@@ -18,7 +18,7 @@ use Rattle.sequences.proofs.ActionLaws.{decode-compute, decode-visit, decode-le
 use Rattle.trees.specs.Tree.{nodes, ruleOf, child, cell}
 use Rattle.evaluating.specs.Places.{valueFrom}
 use Rattle.evaluating.proofs.PlaceLaws.{kept, by-number}
-use Rattle.running.specs.Sequences.{actionAt}
+use Rattle.planning.specs.Sequences.{actionAt}
 use Rattle.running.specs.Automaton.{Machine, functionFor, computed, act, step}
 use Rattle.running.proofs.Steps.{action-of, step-on}
 use Rattle.executing.specs.State.{stackOf, machineOf, written, topOf, topAction, Ready, Stepped}

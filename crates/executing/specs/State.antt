@@ -9,7 +9,7 @@ use Rattle.basics.specs.Lists.{word}
 use Rattle.grammar.specs.Table.{functionOf}
 use Rattle.trees.specs.Tree.{nodes, ruleOf, cell}
 use Rattle.evaluating.specs.Places.{valueFrom}
-use Rattle.running.specs.Sequences.{actionAt}
+use Rattle.planning.specs.Sequences.{actionAt}
 use Rattle.running.specs.Automaton.{Machine, functionFor, step}
 
 -- the first words of an array as a stack, the last of them on top

@@ -10,7 +10,7 @@ ghost use Rattle.grammar.specs.Reading.{readTable};
 ghost use Rattle.reader.specs.Offsets.{offsetsFor};
 ghost use Rattle.trees.specs.Tree as trees;
 ghost use Rattle.trees.specs.Checking.{checkTree};
-ghost use Rattle.running.specs.Sequences as sequences;
+ghost use Rattle.planning.specs.Sequences as sequences;
 ghost use Rattle.running.specs.Sound.{Sound};
 ghost use Rattle.running.specs.Run as runs;
 ghost use Rattle.executing.specs.Located as located;

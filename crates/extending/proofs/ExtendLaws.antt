@@ -1,41 +1,40 @@
 -- The rows start with the paths of IDP, which are paths of EDP too, for no arc of IDS is a terminal's. Rule by rule the arcs that lead
 -- down are added; then every arc of EDP is there, and nothing but its paths. Assumes nothing.
-use Prim.Native.Nat.{ℕ, zero, suc, _+_, _*_, _/_, _%_, _^_, _≤_, _<_}
-use mathlib.Core.Path.{_≡_, refl, sym, _∙_, ap, subst, subst⁻¹}
+use Prim.Native.Nat.{ℕ, _+_, _*_, _/_, _%_, _≤_, _<_}
+use mathlib.Core.Path.{_≡_, _∙_, ap, subst, subst⁻¹}
 use mathlib.Core.Logic.{_⊎_, inl, inr, ⊎-elim}
-use mathlib.Core.Bool.{Bool, true, false}
+use mathlib.Core.Bool.{Bool}
 use mathlib.Core.List.{List}
 use native.Mathlib.Omega.{arith}
 use lib.Dec.{T}
-use lib.ListN.{length, getD}
+use lib.ListN.{length}
 use Rattle.bits.specs.Bit.{hasb}
 use Rattle.basics.specs.Lists.{word}
-use Rattle.basics.proofs.TestLaws.{below-suc, same-or-not}
+use Rattle.basics.proofs.TestLaws.{below-suc}
 use Rattle.grammar.specs.declared.Verdict.the-variants.{Good}
-use Rattle.grammar.specs.Table.{symbols, rules, kind, attributes, lengthAt, ruleAt, rightLength, symbolOf, occurrenceOf}
+use Rattle.grammar.specs.Table.{symbols, rules, lengthAt, ruleAt, rightLength, symbolOf}
 use Rattle.grammar.specs.Reading.{readTable}
 use Rattle.grammar.specs.WellFormed.{WellFormed}
 use Rattle.grammar.proofs.Accepted.{accepted}
-use Rattle.relations.specs.Paper.{Path⁺, DP, Stands, IDP, IDS, IDP⁺}
-use Rattle.relations.specs.Computed.{idpPath, idsOf}
+use Rattle.relations.specs.Paper.{Path⁺, IDP, IDP⁺}
+use Rattle.relations.specs.Computed.{idsOf}
 use Rattle.relations.proofs.PathLaws.{path-join, path-map}
-use Rattle.relations.proofs.Least.{idp-paths, ids-occurs}
-use Rattle.relations.proofs.Occurrences.{counts-below, occurs-below, stands-symbol, attribute-fits}
+use Rattle.relations.proofs.Least.{idp-paths}
+use Rattle.relations.proofs.Occurrences.{occurs-below, stands-symbol, attribute-fits}
 use Rattle.relations.proofs.Exact.{idp-path-exact}
-use Rattle.relations.proofs.Induced.{ids-at, ids-symbol, ids-terminal, idp-path-from, idp-path-to}
+use Rattle.relations.proofs.Induced.{idp-path-from, idp-path-to}
 use Rattle.sets.specs.Visits.{setNumber}
 use Rattle.sets.specs.Computed.{setsOf}
 use Rattle.sets.proofs.SetWords.{Numbered, numbered}
 use Rattle.ordered.specs.Paper.{Beside, EDP}
-use Rattle.ordered.specs.Computed.{edpPath}
 use Rattle.ordered.proofs.Exact.{edp-path-exact}
-use Rattle.reader.specs.Places.{symbolFrom, occurrencesAt}
+use Rattle.ordered.proofs.WholeGrammar.{idp-edp}
+use Rattle.reader.specs.Places.{occurrencesAt}
 use Rattle.reader.proofs.Same.{symbol-same}
 use Rattle.closing.specs.Rows.{leads}
-use Rattle.closing.proofs.ClosedLaws.{Kept}
 use Rattle.planning.specs.Buffers.{over, rowsOf}
 use Rattle.planning.specs.Answer.{idpPaths, edpPaths}
-use Rattle.inducing.specs.Closes.{Closes, ArcAt}
+use Rattle.inducing.specs.Closes.{Closes}
 use Rattle.inducing.specs.Arcs.{SpreadArc, ArcsFit}
 use Rattle.inducing.specs.Rules.{occurrencesOf, Holds, Frame}
 use Rattle.inducing.proofs.RowLaws.{over-leads, over-below}
@@ -57,7 +56,7 @@ abbrev pub Lower : List ℕ → ℕ → ℕ → ℕ → ℕ → Type 0
 Lower g n r a b = IDP⁺ g r a b ⊎ ((r < n) × Down g r a b)
 
 abbrev pub Upper : List ℕ → ℕ → ℕ → ℕ → Type 0
-Upper g r a b = Path⁺ (EDP g (numbers g) r) a b
+Upper g r a b = Path⁺ (EDP g (setNumber (numbers g)) r) a b
 
 pub record Extending (g entry : List ℕ) (n : ℕ) (rows : List ℕ) : Type 0 where
   pub bound : n ≤ rules g
@@ -68,32 +67,12 @@ module _ (g : List ℕ) (good : readTable g ≡ Good) where
   formed : WellFormed g
   formed = accepted g good
 
-  -- an arc of IDP is one of EDP
-  idp-edp : {r a b : ℕ} → IDP g r a b → EDP g (numbers g) r a b
-  idp-edp (IDP.direct r a b d) = EDP.direct d
-  idp-edp (IDP.induced r i x a b c d s e f h) =
-      let w = ids-occurs g e in
-      EDP.within i x a b
-      (record {
-          stands = s;
-          nonterminalThere = nonterminal;
-          firstFits = w .startFits;
-          secondFits = w .endFits;
-          firstIs = f;
-          secondIs = h
-      }) e
-    where
-      nonterminal : kind g x ≡ 0
-      nonterminal =
-          ⊎-elim (λ k. absurd (ids-terminal g formed k e))
-          (λ k. omega (arith, formed .symbol x (ids-symbol g formed e) .kindFits)) (same-or-not (kind g x) 1)
-
   idp-upper : (r a b : ℕ) → IDP⁺ g r a b → Upper g r a b
-  idp-upper r a b p = path-map (λ c d e. idp-edp e) (idp-paths g p)
+  idp-upper r a b p = path-map (λ c d e. idp-edp g formed (setNumber (numbers g)) e) (idp-paths g p)
 
   -- a member of the arcs that lead down, at a position of a rule
   descent-edp : (r i k c d : ℕ) → r < rules g → i ≤ rightLength g r → T (hasb k (word (orderOf g (numbers g)) (symbolOf g r i)))
-      → c ≡ 8 * i + k / 8 → d ≡ 8 * i + k % 8 → EDP g (numbers g) r c d
+      → c ≡ 8 * i + k / 8 → d ≡ 8 * i + k % 8 → EDP g (setNumber (numbers g)) r c d
   unfolding setNumber
   descent-edp r i k c d h l t e f =
       let x : ℕ = symbolOf g r i in
@@ -111,7 +90,7 @@ module _ (g : List ℕ) (good : readTable g ≡ Good) where
           secondIs = f
       }) (m .2)
 
-  down-edp : (r a b : ℕ) → r < rules g → Down g r a b → EDP g (numbers g) r a b
+  down-edp : (r a b : ℕ) → r < rules g → Down g r a b → EDP g (setNumber (numbers g)) r a b
   unfolding rightLength
   down-edp r a b h s =
       descent-edp r (s .place) (s .arc .number) a b h (let m = s .placeFits in omega arith)
@@ -223,7 +202,7 @@ module _ (g : List ℕ) (good : readTable g ≡ Good) where
           }
       }
 
-  edp-lower : (r a b : ℕ) → r < rules g → EDP g (numbers g) r a b → Lower g (rules g) r a b
+  edp-lower : (r a b : ℕ) → r < rules g → EDP g (setNumber (numbers g)) r a b → Lower g (rules g) r a b
   edp-lower r a b h (EDP.direct d) = inl (IDP⁺.one r a b (IDP.direct r a b d))
   edp-lower r m n h (EDP.within i x a b w e) =
       inl (IDP⁺.one r m n (IDP.induced r i x a b m n (w .stands) e (w .firstIs) (w .secondIs)))

@@ -1,30 +1,25 @@
 -- The computed EDP and its paths are exactly those of the paper, for every table that the reader accepts and any set numbers.
 -- Assumes nothing.
-use Prim.Native.Nat.{ℕ, _≤_, _<_}
-use mathlib.Core.Path.{_≡_, refl, sym, _∙_, ap, subst, subst⁻¹}
+use Prim.Native.Nat.{ℕ, _<_}
+use mathlib.Core.Path.{_≡_, sym, _∙_, ap, subst⁻¹}
 use mathlib.Core.Logic.{_↔_, ⊎-elim}
-use mathlib.Core.Bool.{Bool}
 use mathlib.Core.List.{List}
 use native.Mathlib.Omega.{arith}
-use lib.Dec.{T, ltb, eqb, ltb→lt, lt→ltb, eqb→eq}
-use Rattle.basics.specs.Tests.{_and_, _or_}
-use Rattle.basics.specs.Lists.{member}
+use lib.Dec.{T, ltb, ltb→lt, lt→ltb, eqb→eq}
+use Rattle.basics.specs.Tests.{_or_}
 use Rattle.basics.proofs.TestLaws.{and-intro, and-left, and-right, or-left, or-right, or-cases, eq-T}
 use Rattle.grammar.specs.Limits.{mostAttributes}
 use Rattle.grammar.specs.declared.Verdict.the-variants.{Good}
-use Rattle.grammar.specs.Table.{
-    symbols, kind, attributes, nonterminal, symbolOf, occurrence, occurrenceOf, position, attribute, ruleCounts
-}
+use Rattle.grammar.specs.Table.{symbols, kind, attributes, symbolOf, occurrence, position, attribute, ruleCounts}
 use Rattle.grammar.specs.Reading.{readTable}
 use Rattle.grammar.specs.WellFormed.{WellFormed}
 use Rattle.grammar.proofs.Accepted.{accepted, defining-occurs}
-use Rattle.relations.specs.Paper.{DP, Stands, IDS, Path⁺}
+use Rattle.relations.specs.Paper.{Path⁺}
 use Rattle.relations.specs.Computed.{arcIn, idsOf, occurrences}
-use Rattle.relations.specs.Paths.{path}
 use Rattle.relations.proofs.PathLaws.{path-sound, path-complete, path-map}
 use Rattle.relations.proofs.Occurrences.{
-    occurrence-is, position-of, attribute-of, occurs-attribute, occurs-stands, dp-sound, dp-complete, dp-argument, dp-target, stands-symbol,
-    attribute-fits, symbol-at, stands-occurs, occurrences-exact
+    occurrence-is, position-of, attribute-of, occurs-attribute, occurs-stands, dp-sound, dp-complete, dp-argument, dp-target,
+    stands-symbol, attribute-fits, stands-occurs, occurrences-exact
 }
 use Rattle.relations.proofs.Exact.{ids-exact}
 use Rattle.sets.specs.Visits.{setNumber}
@@ -45,7 +40,7 @@ module _ (g : List ℕ) (good : readTable g ≡ Good) (s : List ℕ) (r : ℕ) (
           secondIs = omega arith
       }
 
-  beside-sound : (a b : ℕ) → T (besideArc g (idsOf g) s r a b) → EDP g s r a b
+  beside-sound : (a b : ℕ) → T (besideArc g (idsOf g) s r a b) → EDP g (setNumber s) r a b
   unfolding besideArc
   beside-sound a b t =
       let x = symbolOf g r (position a) in
@@ -57,7 +52,7 @@ module _ (g : List ℕ) (good : readTable g ≡ Good) (s : List ℕ) (r : ℕ) (
       (λ i. EDP.within (position a) x (attribute a) (attribute b) w (ids-exact g good x (attribute a) (attribute b) (omega arith) .0 i))
       (λ l. EDP.higher (position a) x (attribute a) (attribute b) w (ltb→lt _ _ l)) (or-cases _ _ (and-right _ _ t₃))
 
-  edp-sound : (a b : ℕ) → T (edp g (idsOf g) s r a b) → EDP g s r a b
+  edp-sound : (a b : ℕ) → T (edp g (idsOf g) s r a b) → EDP g (setNumber s) r a b
   unfolding edp
   edp-sound a b t = ⊎-elim (λ d. EDP.direct (dp-sound g r a b d)) (λ d. beside-sound a b d) (or-cases _ _ t)
 
@@ -83,7 +78,7 @@ module _ (g : List ℕ) (good : readTable g ≡ Good) (s : List ℕ) (r : ℕ) (
       (subst⁻¹ (λ (q : ℕ). T (arcIn (idsOf g) (symbolOf g r (position m)) a q or ltb (setNumber s (symbolOf g r (position m)) q) (setNumber s (symbolOf g r (position m)) a))) an
       (subst⁻¹ (λ (y : ℕ). T (arcIn (idsOf g) y a b or ltb (setNumber s y b) (setNumber s y a))) sx t))))))
 
-  edp-complete : (a b : ℕ) → EDP g s r a b → T (edp g (idsOf g) s r a b)
+  edp-complete : (a b : ℕ) → EDP g (setNumber s) r a b → T (edp g (idsOf g) s r a b)
   unfolding edp
   edp-complete m n (EDP.direct d) = or-left _ _ (dp-complete g r m n d)
   edp-complete m n (EDP.within i x a b w e) =
@@ -96,18 +91,18 @@ module _ (g : List ℕ) (good : readTable g ≡ Good) (s : List ℕ) (r : ℕ) (
       or-right _ _ (beside-complete i x a b m n w (or-right (arcIn (idsOf g) x a b) _ (lt→ltb _ _ l)))
 
   -- the computed EDP is the paper's
-  pub edp-exact : (a b : ℕ) → T (edp g (idsOf g) s r a b) ↔ EDP g s r a b
+  pub edp-exact : (a b : ℕ) → T (edp g (idsOf g) s r a b) ↔ EDP g (setNumber s) r a b
   edp-exact a b = (edp-sound a b, edp-complete a b)
 
   -- an EDP arc leads from an occurrence to an occurrence
-  pub edp-from : (a b : ℕ) → EDP g s r a b → T (occurrence g r a)
+  pub edp-from : (a b : ℕ) → EDP g (setNumber s) r a b → T (occurrence g r a)
   edp-from a b (EDP.direct d) = dp-argument g (accepted g good) r a b c d
   edp-from m n (EDP.within i x a b w e) =
       subst⁻¹ (λ (o : ℕ). T (occurrence g r o)) (w .firstIs) (stands-occurs g (accepted g good) r i x a (w .stands) (w .firstFits))
   edp-from m n (EDP.higher i x a b w e) =
       subst⁻¹ (λ (o : ℕ). T (occurrence g r o)) (w .firstIs) (stands-occurs g (accepted g good) r i x a (w .stands) (w .firstFits))
 
-  pub edp-to : (a b : ℕ) → EDP g s r a b → T (occurrence g r b)
+  pub edp-to : (a b : ℕ) → EDP g (setNumber s) r a b → T (occurrence g r b)
   edp-to a b (EDP.direct d) = defining-occurs g r b (dp-target g (accepted g good) r a b c d)
   edp-to m n (EDP.within i x a b w e) =
       subst⁻¹ (λ (o : ℕ). T (occurrence g r o)) (w .secondIs) (stands-occurs g (accepted g good) r i x b (w .stands) (w .secondFits))
@@ -115,7 +110,7 @@ module _ (g : List ℕ) (good : readTable g ≡ Good) (s : List ℕ) (r : ℕ) (
       subst⁻¹ (λ (o : ℕ). T (occurrence g r o)) (w .secondIs) (stands-occurs g (accepted g good) r i x b (w .stands) (w .secondFits))
 
   -- the computed paths of EDP are the paper's
-  pub edp-path-exact : (a b : ℕ) → T (edpPath g (idsOf g) s r a b) ↔ Path⁺ (EDP g s r) a b
+  pub edp-path-exact : (a b : ℕ) → T (edpPath g (idsOf g) s r a b) ↔ Path⁺ (EDP g (setNumber s) r) a b
   unfolding edpPath
   edp-path-exact a b =
       (λ t. path-map edp-sound (path-sound _ (occurrences g r) a b t),

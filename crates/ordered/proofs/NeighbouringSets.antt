@@ -23,7 +23,7 @@ module _ (g s : List ℕ) (r : ℕ)
         → (b : ℕ) × (b < attributes g x) × (setNumber s x b ≡ j)) where
   -- an arc from a higher set, at most n sets above the neighbour, is a path from neighbour to neighbour
   step-down : (n i x a b c d : ℕ) → Beside g r i x a b c d → setNumber s x b < setNumber s x a → setNumber s x a ≤ suc n + setNumber s x b
-      → Path⁺ (Neighbouring g s r) c d
+      → Path⁺ (Neighbouring g (setNumber s) r) c d
   step-down zero i x a b c d w h l = one (Neighbouring.next i x a b w (omega arith))
   step-down (suc n) i x a b c d w h l =
       ⊎-elim
@@ -50,19 +50,19 @@ module _ (g s : List ℕ) (r : ℕ)
       (λ q. one (Neighbouring.next i x a b w (omega arith))) (below-or-not (suc (setNumber s x b)) (setNumber s x a))
 
   -- each EDP arc is a path over neighbouring sets
-  higher-neighbours : (c d : ℕ) → EDP g s r c d → Path⁺ (Neighbouring g s r) c d
+  higher-neighbours : (c d : ℕ) → EDP g (setNumber s) r c d → Path⁺ (Neighbouring g (setNumber s) r) c d
   higher-neighbours c d (EDP.direct p) = one (Neighbouring.direct p)
   higher-neighbours c d (EDP.within i x a b w p) = one (Neighbouring.within i x a b w p)
   higher-neighbours c d (EDP.higher i x a b w h) = step-down (setNumber s x a) i x a b c d w h (omega arith)
 
   -- an arc between neighbouring sets is an arc from a higher set
-  neighbours-higher : (c d : ℕ) → Neighbouring g s r c d → Path⁺ (EDP g s r) c d
+  neighbours-higher : (c d : ℕ) → Neighbouring g (setNumber s) r c d → Path⁺ (EDP g (setNumber s) r) c d
   neighbours-higher c d (Neighbouring.direct p) = one (EDP.direct p)
   neighbours-higher c d (Neighbouring.within i x a b w p) = one (EDP.within i x a b w p)
   neighbours-higher c d (Neighbouring.next i x a b w e) = one (EDP.higher i x a b w (omega arith))
 
   -- "000 adds neighbouring sets only; the paths are equal"
-  pub same-paths : (a b : ℕ) → Path⁺ (EDP g s r) a b ↔ Path⁺ (Neighbouring g s r) a b
+  pub same-paths : (a b : ℕ) → Path⁺ (EDP g (setNumber s) r) a b ↔ Path⁺ (Neighbouring g (setNumber s) r) a b
   same-paths a b = (path-into higher-neighbours, path-into neighbours-higher)
 
 -- For the set words of a plan: the table is well formed, and IDS of each nonterminal is transitive and has no cycle.
@@ -75,7 +75,7 @@ module _ (g ids : List ℕ) (w : WellFormed g)
       subst (λ (y : ℕ). y < symbols g) (t .symbolIs) (w .rule r (ltb→lt r (rules g) (t .counts)) .symbolsFit i (t .inside))
 
   -- the paths are equal for the sets that the planner writes
-  pub same-paths-of-plan : (r a b : ℕ) → Path⁺ (EDP g (setsOf g ids) r) a b ↔ Path⁺ (Neighbouring g (setsOf g ids) r) a b
+  pub same-paths-of-plan : (r a b : ℕ) → Path⁺ (EDP g (setNumber (setsOf g ids)) r) a b ↔ Path⁺ (Neighbouring g (setNumber (setsOf g ids)) r) a b
   same-paths-of-plan r =
       same-paths g (setsOf g ids) r
       (λ i x a t n l.

@@ -1,29 +1,27 @@
 -- For a table that is accepted and has no cycle of IDP, the computed set numbers are the paper's sets over the paper's IDS: each set is
 -- the largest collection, every attribute is in one, only set 1 can be empty, and an IDS arc never leads to a higher set. Assumes nothing.
-use Prim.Native.Nat.{ℕ, suc, _≤_, _<_}
+use Prim.Native.Nat.{ℕ, _≤_, _<_}
 use mathlib.Core.Path.{_≡_}
-use mathlib.Core.Logic.{_↔_, _⊎_}
+use mathlib.Core.Logic.{_↔_}
 use mathlib.Core.List.{List}
 use native.Mathlib.Omega.{arith}
-use lib.Dec.{T}
 use Rattle.basics.specs.Lists.{word}
-use Rattle.grammar.specs.Limits.{mostAttributes, mostSymbols}
 use Rattle.grammar.specs.declared.Verdict.the-variants.{Good}
-use Rattle.grammar.specs.Table.{symbols, kind, attributes, ruleCounts}
+use Rattle.grammar.specs.Table.{symbols, kind, attributes}
 use Rattle.grammar.specs.Reading.{readTable}
 use Rattle.grammar.specs.WellFormed.{WellFormed}
 use Rattle.grammar.proofs.Accepted.{accepted}
-use Rattle.relations.specs.Paper.{Stands, IDS, IDP⁺, Path⁺, OnCycle}
-use Rattle.relations.specs.Computed.{arcIn, idsOf}
-use Rattle.relations.proofs.Occurrences.{stands-symbol, attribute-fits}
+use Rattle.relations.specs.Paper.{IDS, Path⁺}
+use Rattle.relations.specs.Computed.{idsOf}
+use Rattle.relations.proofs.Occurrences.{attribute-fits}
 use Rattle.relations.proofs.Least.{ids-occurs, paths-idp}
 use Rattle.relations.proofs.Exact.{ids-exact}
 use Rattle.relations.proofs.Induced.{ids-transitive, ids-acyclic, ids-symbol}
-use Rattle.sets.specs.Paper.{Collection, Largest, Sets, ofClass}
+use Rattle.sets.specs.Paper.{Collection, Sets}
 use Rattle.sets.specs.Visits.{setNumber}
 use Rattle.sets.specs.Computed.{setsOf, setsOfSymbol}
 use Rattle.sets.proofs.Placing.{Arc}
-use Rattle.sets.proofs.SetWords.{words-are-the-sets, word-placed, word-only-first-empty, word-arcs-down, number-nine, number-of-class}
+use Rattle.sets.proofs.SetWords.{words-are-the-sets, word-placed, word-only-first-empty, word-arcs-down}
 use Rattle.ordered.specs.Paper.{EDP, Neighbouring, CircularIDP}
 use Rattle.ordered.proofs.NeighbouringSets.{same-paths-of-plan}
 
@@ -109,6 +107,6 @@ module _ (g : List ℕ) (good : readTable g ≡ Good) (none : CircularIDP g → 
         (arcs-transitive x h) (arcs-acyclic x h) a b (ids-arc x a b e)
 
   -- "000 adds neighbouring sets only; the paths are equal"
-  pub neighbouring-paths : (r a b : ℕ) → Path⁺ (EDP g (setsOf g (idsOf g)) r) a b ↔ Path⁺ (Neighbouring g (setsOf g (idsOf g)) r) a b
+  pub neighbouring-paths : (r a b : ℕ) → Path⁺ (EDP g (setNumber (setsOf g (idsOf g))) r) a b ↔ Path⁺ (Neighbouring g (setNumber (setsOf g (idsOf g))) r) a b
   neighbouring-paths =
       same-paths-of-plan g (idsOf g) formed (λ x h k. arcs-transitive x h) (λ x h k. arcs-acyclic x h)

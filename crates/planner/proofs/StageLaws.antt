@@ -1,11 +1,10 @@
 -- What planning answers and leaves at each stage, by what the searches found.
 -- Assumes nothing.
-use Prim.Native.Nat.{ℕ, _+_, _*_, _≤_, _<_}
+use Prim.Native.Nat.{ℕ, _+_, _*_, _≤_}
 use mathlib.Core.Path.{_≡_, refl, sym, _∙_, ap, ap₂, subst, subst⁻¹}
-use mathlib.Core.Bool.{Bool, true, false, cond}
+use mathlib.Core.Bool.{Bool, false}
 use mathlib.Core.List.{List}
 use native.Mathlib.Omega.{arith}
-use lib.Dec.{T}
 use lib.ListN.{length, getD}
 use Rattle.basics.specs.Lists.{padded}
 use Rattle.basics.proofs.TestLaws.{chosen, passed-over, true-T, false-T}
@@ -23,12 +22,11 @@ use Rattle.sets.specs.Computed.{setsOf}
 use Rattle.ordered.specs.Computed.{circular, cycleRule, cycleOccurrence}
 use Rattle.reader.specs.Offsets.{offsetsFor}
 use Rattle.reader.proofs.Laws.{stops, passes}
-use Rattle.inducing.specs.declared.Cycle.{Cycle}
 use Rattle.inducing.specs.declared.Cycle.the-variants.{At, Nothing}
 use Rattle.inducing.specs.Cycles.{cycleIn}
 use Rattle.inducing.proofs.CycleLaws.{cycle-found, cycle-nothing}
 use Rattle.inducing.proofs.ExactLaws.{padded-word}
-use Rattle.inducing.proofs.RowLaws.{rows-length, over-length}
+use Rattle.planning.proofs.RowWords.{rows-length, over-length}
 use Rattle.placing.proofs.SameSets.{sets-same}
 use Rattle.planning.specs.declared.Planned as P
 use Rattle.planning.specs.Buffers.{over, rowsOf}
@@ -37,7 +35,7 @@ use Rattle.planning.specs.Answer.{
     acceptedPlan
 }
 use Rattle.planning.proofs.Answers.{no-idp-cycle, no-edp-cycle, comes}
-use Rattle.planning.proofs.Ordered.{IsOrdered, ordered-accepted}
+use Rattle.planning.proofs.Ordered.{CycleFree, free-accepted}
 use Rattle.planner.specs.Ready.{Read, Ordered, sets}
 use Rattle.planner.proofs.RoomLaws.{rows-room, plan-room}
 use Rattle.planner.proofs.WriteLaws.{over-over}
@@ -147,9 +145,9 @@ pub plan-came : (g offsets s rows₀ plan₀ rows next plan : List ℕ) (n : ℕ
 unfolding answerOf rowsAfter planAfter
 plan-came g offsets s rows₀ plan₀ rows next plan n w m es is none f e p =
     let d = ordered-ready g offsets s rows₀ rows next (length plan₀) n w m es is none f e in
-    let o : IsOrdered g = record { noIdpCycle = no-idp-cycle g (w .good) (d .noIdpCycle); noEdpCycle = no-edp-cycle g (w .good) (d .noEdpCycle) } in
+    let o : CycleFree g = record { noIdpCycle = no-idp-cycle g (w .good) (d .noIdpCycle); noEdpCycle = no-edp-cycle g (w .good) (d .noEdpCycle) } in
     came-by g (afterRoom g (idsOf g)) accepted rows₀ plan₀ _ next plan
-    (sym (comes g (w .good) (length rows₀) (length plan₀) (w .space)) ∙ ordered-accepted g (w .good) (length rows₀) (length plan₀) (w .space) o)
+    (sym (comes g (w .good) (length rows₀) (length plan₀) (w .space)) ∙ free-accepted g (w .good) (length rows₀) (length plan₀) (w .space) o)
     (ap (λ (k : ℕ). P.the-variants.Accepted (planWords k)) m, (over-new g rows₀ rows next (idps g) (edps g) is f, p))
 
 -- a refusal before anything is written

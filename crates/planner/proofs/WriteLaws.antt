@@ -1,18 +1,15 @@
 -- The words of a plan, block after block: the set words, then the sequence of each rule.
 -- Assumes nothing.
-use Prim.Native.Nat.{ℕ, zero, suc, _+_, _*_, _-_, _≤_, _<_}
-use mathlib.Core.Path.{_≡_, refl, sym, _∙_, ap, ap₂, subst, subst⁻¹}
-use mathlib.Core.Bool.{Bool, true, false}
-use mathlib.Core.List.{List, [], _∷_, _++_, append-assoc}
+use Prim.Native.Nat.{ℕ, _+_, _*_, _-_, _≤_, _<_}
+use mathlib.Core.Path.{_≡_, sym, _∙_, ap, ap₂, subst⁻¹}
+use mathlib.Core.List.{List, _++_, append-assoc}
 use native.Mathlib.Omega.{arith}
 use native.Mathlib.Numerals.{add-one}
 use native.Mathlib.Nat.{mul-comm}
-use lib.ListN.{length, getD, take, drop, length-append, length-drop}
+use lib.ListN.{length, getD, drop, length-append}
 use lib.Seq.{take-append-seam, drop-append-add, drop-drop}
 use Rattle.basics.specs.Lists.{word, blocks}
 use Rattle.basics.proofs.ListLaws.{length-blocks, length-padded}
-use Rattle.bits.specs.Bit.{collect}
-use Rattle.grammar.specs.declared.Verdict.the-variants.{Good}
 use Rattle.grammar.specs.Table.{rules}
 use Rattle.grammar.proofs.Accepted.{accepted}
 use Rattle.relations.specs.Computed.{idsOf}
@@ -20,11 +17,11 @@ use Rattle.sets.specs.Computed.{setsOf}
 use Rattle.sets.proofs.SetWords.{length-sets}
 use Rattle.sequences.specs.Order.{sequenceOf}
 use Rattle.sequences.proofs.Planned.{planned-short}
-use Rattle.planning.specs.Buffers.{over, rowsOf, sequenceWords, planOf}
-use Rattle.planning.specs.Answer.{idpPaths, edpPaths, sequencesOf, acceptedPlan}
+use Rattle.planning.specs.Buffers.{over, sequenceWords, planOf}
+use Rattle.planning.specs.Answer.{edpPaths, sequencesOf, acceptedPlan}
 use Rattle.planning.proofs.Answers.{no-idp-cycle, no-edp-cycle}
 use Rattle.inducing.proofs.RuleLaws.{offset-is}
-use Rattle.inducing.proofs.RowLaws.{over-row}
+use Rattle.planning.proofs.RowWords.{over-size, over-row}
 use Rattle.sequencing.specs.Given.{Given, written}
 use Rattle.planner.specs.Ready.{Ordered, sets}
 
@@ -37,10 +34,6 @@ over-written done block lent =
     (drop-append-add done (drop (length done) lent) (length block) ∙ (drop-drop (length block) (length done) lent
     ∙ ap (λ (n : ℕ). drop n lent) (sym (length-append done block))))
     ∙ sym (append-assoc done block (drop (length (done ++ block)) lent)))
-
-pub over-size : (a lent : List ℕ) → length a ≤ length lent → length (over a lent) ≡ length lent
-unfolding over
-over-size a lent h = omega (arith, length-append a (drop (length a) lent), length-drop (length a) lent)
 
 -- what is written twice is as the longer, second writing left it
 pub over-over : (a b lent : List ℕ) → length b ≤ length a → over a (over b lent) ≡ over a lent

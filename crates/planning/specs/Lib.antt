@@ -1,2 +1,4 @@
 pub mod Buffers
+pub mod Sequences
 pub mod Answer
+pub mod Left

@@ -1,7 +1,7 @@
 -- What a whole run answers and leaves, by what planning answered and what the check found.
 -- Assumes nothing.
-use Prim.Native.Nat.{ℕ, _+_, _*_, _≤_, _<_}
-use mathlib.Core.Path.{_≡_, refl, sym, _∙_, ap, subst, subst⁻¹}
+use Prim.Native.Nat.{ℕ, _≤_}
+use mathlib.Core.Path.{_≡_, refl, sym, _∙_, ap, subst⁻¹}
 use mathlib.Core.List.{List}
 use native.Mathlib.Omega.{arith}
 use lib.IntN.{ℤ}
@@ -19,13 +19,14 @@ use Rattle.planning.specs.Buffers.{over}
 use Rattle.planning.specs.Answer.{
     Outcome, untouched, circularIdp, unordered, accepted, outcome, answerOf, rowsAfter, planAfter, acceptedPlan
 }
-use Rattle.planning.proofs.Ordered.{IsOrdered, accepted-ordered}
+use Rattle.planning.proofs.Ordered.{CycleFree, accepted-free}
 use Rattle.planner.proofs.RoomLaws.{plan-room}
 use Rattle.planner.proofs.AcceptedLaws.{is-accepted, both-good}
-use Rattle.planner.proofs.WriteLaws.{over-size, accepted-length}
+use Rattle.planning.proofs.RowWords.{over-size}
+use Rattle.planning.proofs.PlanWords.{plan-length}
 use Rattle.trees.specs.Checking.{checkTree}
 use Rattle.running.specs.declared.Ran as R
-use Rattle.running.specs.Run.{Ended, ran, runAnswer, valuesAfter}
+use Rattle.running.specs.Run.{ran, runAnswer, valuesAfter}
 use Rattle.running.proofs.PlannedSound.{planned-sound}
 use Rattle.runner.specs.Whole.{came, leftPlan, answer, values, treeAnswer, treeValues, Planned}
 
@@ -65,12 +66,12 @@ module _ (g : List ℕ) where
   plan-sound : (rows plan : List ℕ) → outcome g (length rows) (length plan) ≡ accepted → Planned g (over (acceptedPlan g) plan)
   plan-sound rows plan e =
       let b = both-good g (length rows) (length plan) e in
-      let o : IsOrdered g = accepted-ordered g (b .0) (length rows) (length plan) (b .1) e in
+      let o : CycleFree g = accepted-free g (b .0) (length rows) (length plan) (b .1) e in
       let room : planWords (rules g) ≤ length plan = plan-room g (length rows) (length plan) (b .1) in
       record {
           good = b .0;
           soundPlan = planned-sound g (b .0) plan (o .noIdpCycle) (o .noEdpCycle);
-          long = omega (arith, over-size (acceptedPlan g) plan (omega (arith, accepted-length g)))
+          long = omega (arith, over-size (acceptedPlan g) plan (omega (arith, plan-length g plan)))
       }
 
   pub run-planned : (rows plan : List ℕ) (planned : P.Planned) (plan′ : List ℕ) (n : ℕ) → planned ≡ answerOf g (outcome g (length rows) (length plan))

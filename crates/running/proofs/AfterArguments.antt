@@ -32,7 +32,7 @@ use Rattle.trees.proofs.Cells.{
     node-left, node-child, node-at-inside, node-at-symbol, cell-is, occurrence-attribute, attribute-eight,
     child-of, applies-nonterminal, nonterminal-applies, occurs-there, cell-there
 }
-use Rattle.running.specs.Sequences.{actionAt}
+use Rattle.planning.specs.Sequences.{actionAt}
 use Rattle.running.specs.Sound.{Before, ofTerminal, ofFirstVisit, Available, always, made}
 use Rattle.running.specs.Balance.{Given, leavesAt, visitsAt, Balanced}
 use Rattle.running.specs.Computing.{machineAt, Computing, ComputedBefore}

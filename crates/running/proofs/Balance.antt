@@ -20,7 +20,7 @@ use Rattle.trees.specs.Tree.{nodes, ruleOf, appliesRule, child}
 use Rattle.trees.specs.Formed.{ChildOf, Parent}
 use Rattle.trees.proofs.Accepted.{rule-symbol}
 use Rattle.trees.proofs.Cells.{applies-nonterminal, nonterminal-applies, child-of}
-use Rattle.running.specs.Sequences.{sequenceLength, actionAt}
+use Rattle.planning.specs.Sequences.{sequenceLength, actionAt}
 use Rattle.running.specs.Automaton.{started, act, actionOf, stepOn, step, after}
 use Rattle.running.specs.Counts.{leaveNumber, visitNumber, leavesDone, visitsDone}
 use Rattle.running.specs.Balance.{Given, times, leavesAt, visitsAt, Balanced}

@@ -15,7 +15,7 @@ use Rattle.sets.proofs.Visits.{highest-least}
 use Rattle.trees.specs.Tree.{nodes, ruleOf, appliesRule}
 use Rattle.trees.specs.Formed.{ChildOf, Parent}
 use Rattle.trees.proofs.Accepted.{rule-symbol}
-use Rattle.running.specs.Sequences.{sequenceLength}
+use Rattle.planning.specs.Sequences.{sequenceLength}
 use Rattle.running.specs.Counts.{visitsDone}
 use Rattle.running.specs.Balance.{Given, leavesAt, Balanced}
 use Rattle.running.proofs.SequenceCounts.{leaves-end, visits-all}

@@ -22,10 +22,11 @@ use Rattle.trees.specs.Equations.{valueAt, functionValue, Solution, SameTermina
 use Rattle.trees.specs.Definers.{DefinedAt, AttributeOf}
 use Rattle.trees.proofs.Accepted.{accepted-tree}
 use Rattle.running.specs.declared.Ran as R
-use Rattle.running.specs.Sequences.{sequenceLength, actionAt}
+use Rattle.planning.specs.Sequences.{sequenceLength, actionAt}
 use Rattle.running.specs.Sound.{Sound}
 use Rattle.running.specs.Automaton.{Machine, started, after}
-use Rattle.running.specs.Run.{Ended, ran, total}
+use Rattle.planning.specs.Answer.{accepted as planned}
+use Rattle.running.specs.Run.{Ended, ran, total, runAnswer, valuesAfter}
 use Rattle.running.specs.Depth.{longestDown}
 use Rattle.running.specs.Balance.{Given, times, Balanced}
 use Rattle.running.specs.Computing.{machineAt, Computing, AboutTo, ComputedBefore, ExactlyOnce}
@@ -69,6 +70,20 @@ module _ (g p t : List ℕ) (values : List ℤ) (good : readTable g ≡ Good) (s
           let e : total p t ≡ min budget (total p t) = omega arith in
           ap (λ (x : Ended). x .machine) (ran-done given values budget h) ∙ ap (λ (k : ℕ). after g p t k (started t values)) e)
       (below-or-not budget (total p t))
+
+  -- the same of a table that is planned and a tree that is accepted: what is answered
+  pub answer-done : (budget : ℕ) → total p t ≤ budget → runAnswer g p t planned Good values budget ≡ R.the-variants.Done (total p t)
+  unfolding runAnswer
+  answer-done budget h = run-done budget h
+
+  pub answer-stopped : (budget : ℕ) → budget < total p t → runAnswer g p t planned Good values budget ≡ R.the-variants.Stopped budget
+  unfolding runAnswer
+  answer-stopped budget h = run-stopped budget h
+
+  -- and the values that are left
+  pub values-left : (budget : ℕ) → valuesAfter g p t planned Good values budget ≡ machineAt g p t values (min budget (total p t)) .values
+  unfolding valuesAfter
+  values-left budget = ap (λ (m : Machine). m .values) (run-machine budget)
 
   -- after the total where the budget lasts
   pub run-end : (budget : ℕ) → total p t ≤ budget → ran g p t values budget .machine ≡ after g p t (total p t) (started t values)

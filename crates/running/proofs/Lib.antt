@@ -18,3 +18,4 @@ pub mod StackDepth
 pub mod EverySoundPlan
 pub mod SameSets
 pub mod PlannedSound
+pub mod Totals

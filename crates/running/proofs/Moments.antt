@@ -12,7 +12,7 @@ use lib.Seq.{getD-set-same, getD-set-other}
 use Rattle.basics.specs.Lists.{word}
 use Rattle.basics.proofs.TestLaws.{same-or-not, below-or-not, below-suc}
 use Rattle.trees.specs.Tree.{nodes, ruleOf, appliesRule}
-use Rattle.running.specs.Sequences.{sequenceLength}
+use Rattle.planning.specs.Sequences.{sequenceLength}
 use Rattle.running.specs.Automaton.{Machine, started, actionOf, stepOn, step, after}
 use Rattle.running.specs.Run.{total}
 use Rattle.running.specs.Balance.{Given, Balanced}

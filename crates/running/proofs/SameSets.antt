@@ -1,26 +1,19 @@
 -- What a rule's actions are and make available depends on the set numbers of the symbols alone: two lists of words that agree there,
 -- as a plan and its set words do, have the same visits, actions and makers. Assumes nothing.
-use Prim.Native.Nat.{ℕ, zero, suc, _+_, _-_, _/_, _≤_, _<_, max}
-use mathlib.Core.Path.{_≡_, refl, sym, _∙_, ap, ap₂, subst, subst⁻¹}
-use mathlib.Core.Logic.{_⊎_, ⊎-elim}
-use mathlib.Core.Bool.{Bool, true, false, not}
+use Prim.Native.Nat.{ℕ, suc, _+_, _-_, _/_, _≤_, _<_, max}
+use mathlib.Core.Path.{_≡_, ap, ap₂, subst}
 use mathlib.Core.List.{List}
 use native.Mathlib.Omega.{arith}
 use lib.Dec.{T, leb, eqb, leb→le}
-use Rattle.basics.specs.Tests.{_and_}
-use Rattle.basics.proofs.TestLaws.{and-intro, and-left, and-right, same-test}
-use Rattle.grammar.specs.Table.{symbols, rules, rightLength, symbolOf, nonterminal, occurrence, inheritedAt, position, attribute, defining}
+use Rattle.basics.proofs.TestLaws.{and-intro, and-left, and-right}
+use Rattle.grammar.specs.Table.{rules, rightLength, symbolOf, position, attribute}
 use Rattle.grammar.specs.WellFormed.{WellFormed}
 use Rattle.grammar.proofs.OccurrenceLaws.{occurs-inside}
-use Rattle.sets.specs.Visits.{setNumber, highest, lastSet, visits, visitOfSet, visitOf}
+use Rattle.sets.specs.Visits.{setNumber, lastSet, visits, visitOfSet, visitOf}
+use Rattle.sets.proofs.Visits.{highest-same}
 use Rattle.sequences.specs.Actions.{
     Action, compute, visit, leave, none, decode, belongs, isAction, visitAt, inheritedOf, synthesizedOf, makes
 }
-
-highest-same : (n : ℕ) (f h : ℕ → ℕ) → ((i : ℕ) → i < n → f i ≡ h i) → highest n f ≡ highest n h
-unfolding highest
-highest-same zero f h e = refl
-highest-same (suc n) f h e = ap₂ max (highest-same n f h (λ i l. e i (omega arith))) (e n (omega arith))
 
 module _ (g p s : List ℕ) (w : WellFormed g) (same : (x a : ℕ) → x < 32 → a < 8 → setNumber p x a ≡ setNumber s x a) where
   pub visits-same : (x : ℕ) → x < 32 → visits p x ≡ visits s x

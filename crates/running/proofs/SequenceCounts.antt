@@ -18,7 +18,7 @@ use Rattle.sequences.specs.Actions.{Action, compute, visit, leave, none, number
 use Rattle.sequences.proofs.ActionLaws.{
     decode-number, decode-injective, action-below, belongs-action, belongs-visit, belongs-leave, visit-belongs, leave-belongs
 }
-use Rattle.running.specs.Sequences.{sequenceLength, actionAt}
+use Rattle.planning.specs.Sequences.{sequenceLength, actionAt}
 use Rattle.running.specs.Sound.{Before, RuleSound, Sound}
 use Rattle.running.specs.Counts.{leaveNumber, visitNumber, leavesDone, visitsDone}
 use Rattle.running.proofs.Ranks.{Ranks, ranked, all-ranked, ranked-most, reached-done, done-reached}

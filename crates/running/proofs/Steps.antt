@@ -13,7 +13,7 @@ use Rattle.basics.proofs.TestLaws.{eq-T, true-T}
 use Rattle.sequences.specs.Actions.{Action, compute, visit, leave, none, decode}
 use Rattle.trees.specs.Tree.{nodes, ruleOf, appliesRule}
 use Rattle.trees.proofs.Cells.{root-applies}
-use Rattle.running.specs.Sequences.{actionAt}
+use Rattle.planning.specs.Sequences.{actionAt}
 use Rattle.running.specs.Automaton.{Machine, act, actionOf, stepOn, step}
 use Rattle.running.specs.Depth.{PathDown}
 use Rattle.running.specs.Balance.{Given, times}

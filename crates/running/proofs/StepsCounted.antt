@@ -13,7 +13,7 @@ use lib.Seq.{getD-set-same, getD-set-other}
 use Rattle.basics.specs.Lists.{word}
 use Rattle.basics.proofs.TestLaws.{below-suc, true-T}
 use Rattle.trees.specs.Tree.{nodes, ruleOf, appliesRule}
-use Rattle.running.specs.Sequences.{sequenceLength}
+use Rattle.planning.specs.Sequences.{sequenceLength}
 use Rattle.running.specs.Automaton.{Machine, started, actionOf, step, after}
 use Rattle.running.specs.Run.{totalUpTo, total}
 use Rattle.running.specs.Balance.{Given, Balanced}
@@ -28,18 +28,18 @@ walked t places (suc n) = walked t places n + cond (appliesRule t n) (word place
 
 -- where each place is at most its sequence's length the sum is at most the total, less where one is less, and equal where all are
 walked-most : (p t places : List ℕ) (k : ℕ) → ((n : ℕ) → n < k → T (appliesRule t n) → word places n ≤ sequenceLength p (ruleOf t n))
-    → walked t places k ≤ totalUpTo p t k
+    → walked t places k ≤ totalUpTo (λ r. sequenceLength p r) t k
 unfolding walked totalUpTo
 walked-most p t places zero f = omega arith
 walked-most p t places (suc k) f = go (appliesRule t k) refl (walked-most p t places k (λ n h. f n (omega arith)))
   where
-    go : (b : Bool) → appliesRule t k ≡ b → walked t places k ≤ totalUpTo p t k
-        → walked t places k + cond b (word places k) 0 ≤ totalUpTo p t k + cond b (sequenceLength p (ruleOf t k)) 0
+    go : (b : Bool) → appliesRule t k ≡ b → walked t places k ≤ totalUpTo (λ r. sequenceLength p r) t k
+        → walked t places k + cond b (word places k) 0 ≤ totalUpTo (λ r. sequenceLength p r) t k + cond b (sequenceLength p (ruleOf t k)) 0
     go true e h = omega (arith, f k (omega arith) (true-T _ e))
     go false e h = omega arith
 
 walked-less : (p t places : List ℕ) (k : ℕ) → ((n : ℕ) → n < k → T (appliesRule t n) → word places n ≤ sequenceLength p (ruleOf t n))
-    → (m : ℕ) → m < k → T (appliesRule t m) → word places m < sequenceLength p (ruleOf t m) → walked t places k < totalUpTo p t k
+    → (m : ℕ) → m < k → T (appliesRule t m) → word places m < sequenceLength p (ruleOf t m) → walked t places k < totalUpTo (λ r. sequenceLength p r) t k
 unfolding walked totalUpTo
 walked-less p t places zero f m h a l = absurd (omega arith)
 walked-less p t places (suc k) f m h a l =
@@ -49,23 +49,23 @@ walked-less p t places (suc k) f m h a l =
         (subst (λ (n : ℕ). word places n < sequenceLength p (ruleOf t n)) s l) (walked-most p t places k (λ n i. f n (omega arith))))
     (below-suc m k h)
   where
-    go : (b : Bool) → appliesRule t k ≡ b → walked t places k < totalUpTo p t k
-        → walked t places k + cond b (word places k) 0 < totalUpTo p t k + cond b (sequenceLength p (ruleOf t k)) 0
+    go : (b : Bool) → appliesRule t k ≡ b → walked t places k < totalUpTo (λ r. sequenceLength p r) t k
+        → walked t places k + cond b (word places k) 0 < totalUpTo (λ r. sequenceLength p r) t k + cond b (sequenceLength p (ruleOf t k)) 0
     go true e h = omega (arith, f k (omega arith) (true-T _ e))
     go false e h = omega arith
-    here : (b : Bool) → T b → word places k < sequenceLength p (ruleOf t k) → walked t places k ≤ totalUpTo p t k
-        → walked t places k + cond b (word places k) 0 < totalUpTo p t k + cond b (sequenceLength p (ruleOf t k)) 0
+    here : (b : Bool) → T b → word places k < sequenceLength p (ruleOf t k) → walked t places k ≤ totalUpTo (λ r. sequenceLength p r) t k
+        → walked t places k + cond b (word places k) 0 < totalUpTo (λ r. sequenceLength p r) t k + cond b (sequenceLength p (ruleOf t k)) 0
     here true e l h = omega arith
     here false e l h = absurd e
 
 walked-all : (p t places : List ℕ) (k : ℕ) → ((n : ℕ) → n < k → T (appliesRule t n) → word places n ≡ sequenceLength p (ruleOf t n))
-    → walked t places k ≡ totalUpTo p t k
+    → walked t places k ≡ totalUpTo (λ r. sequenceLength p r) t k
 unfolding walked totalUpTo
 walked-all p t places zero f = refl
 walked-all p t places (suc k) f = go (appliesRule t k) refl (walked-all p t places k (λ n h. f n (omega arith)))
   where
-    go : (b : Bool) → appliesRule t k ≡ b → walked t places k ≡ totalUpTo p t k
-        → walked t places k + cond b (word places k) 0 ≡ totalUpTo p t k + cond b (sequenceLength p (ruleOf t k)) 0
+    go : (b : Bool) → appliesRule t k ≡ b → walked t places k ≡ totalUpTo (λ r. sequenceLength p r) t k
+        → walked t places k + cond b (word places k) 0 ≡ totalUpTo (λ r. sequenceLength p r) t k + cond b (sequenceLength p (ruleOf t k)) 0
     go true e h = omega (arith, f k (omega arith) (true-T _ e))
     go false e h = omega arith
 

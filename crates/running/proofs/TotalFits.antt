@@ -9,20 +9,20 @@ use lib.Dec.{T}
 use Rattle.basics.proofs.TestLaws.{true-T}
 use Rattle.grammar.specs.Limits.{ruleWords}
 use Rattle.trees.specs.Tree.{nodes, ruleOf, appliesRule}
-use Rattle.running.specs.Sequences.{sequenceLength}
+use Rattle.planning.specs.Sequences.{sequenceLength}
 use Rattle.running.specs.Run.{totalUpTo, total}
 use Rattle.running.specs.Balance.{Given}
 use Rattle.running.proofs.SequenceCounts.{rule-sound}
 
 -- sequences of at most 111 actions add up to at most 111 a node
 total-most : (p t : List ℕ) (k : ℕ) → ((n : ℕ) → n < k → T (appliesRule t n) → sequenceLength p (ruleOf t n) < ruleWords)
-    → totalUpTo p t k ≤ 111 * k
+    → totalUpTo (λ r. sequenceLength p r) t k ≤ 111 * k
 unfolding totalUpTo
 total-most p t zero f = omega arith
 total-most p t (suc k) f = go (appliesRule t k) refl (total-most p t k (λ n h. f n (omega arith)))
   where
-    go : (b : Bool) → appliesRule t k ≡ b → totalUpTo p t k ≤ 111 * k
-        → totalUpTo p t k + cond b (sequenceLength p (ruleOf t k)) 0 ≤ 111 * suc k
+    go : (b : Bool) → appliesRule t k ≡ b → totalUpTo (λ r. sequenceLength p r) t k ≤ 111 * k
+        → totalUpTo (λ r. sequenceLength p r) t k + cond b (sequenceLength p (ruleOf t k)) 0 ≤ 111 * suc k
     go true e h = omega (arith, f k (omega arith) (true-T _ e))
     go false e h = omega arith
 

@@ -1,7 +1,6 @@
 -- Document 01 and 000, section 6.3: the stack automaton. The machine keeps the stack of nodes, top first, for each node the place of
 -- its sequence at which it goes on, so that a child "resumes after its last leave", and the values. Assumes nothing.
-use Prim.Native.Nat.{ℕ, zero, suc, _+_, _*_}
-use mathlib.Core.Bool.{Bool, true, false}
+use Prim.Native.Nat.{ℕ, zero, suc}
 use mathlib.Core.List.{List, [], _∷_}
 use lib.Dec.{eqb}
 use lib.IntN.{ℤ}
@@ -12,7 +11,7 @@ use Rattle.grammar.specs.Table.{functions, target}
 use Rattle.sequences.specs.Actions.{Action, compute, visit, leave, none, decode}
 use Rattle.trees.specs.Tree.{nodes, ruleOf, child, cell}
 use Rattle.trees.specs.Equations.{functionValue}
-use Rattle.running.specs.Sequences.{actionAt}
+use Rattle.planning.specs.Sequences.{actionAt}
 
 pub record Machine : Type 0 where
   pub stack : List ℕ

@@ -10,7 +10,7 @@ use Rattle.basics.specs.Lists.{word}
 use Rattle.grammar.specs.WellFormed.{WellFormed}
 use Rattle.trees.specs.Tree.{nodes, ruleOf, appliesRule}
 use Rattle.trees.specs.Formed.{ChildOf, TreeFormed}
-use Rattle.running.specs.Sequences.{sequenceLength}
+use Rattle.planning.specs.Sequences.{sequenceLength}
 use Rattle.running.specs.Sound.{Sound}
 use Rattle.running.specs.Counts.{leavesDone, visitsDone}
 use Rattle.running.specs.Depth.{PathDown}

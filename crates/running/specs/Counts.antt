@@ -6,7 +6,7 @@ use mathlib.Core.List.{List}
 use lib.Dec.{ltb, eqb}
 use Rattle.basics.specs.Tests.{count}
 use Rattle.sequences.specs.Actions.{Action, compute, visit, leave, none, decode}
-use Rattle.running.specs.Sequences.{actionAt}
+use Rattle.planning.specs.Sequences.{actionAt}
 
 -- which leave an action is, 0 where it is none
 abbrev pub leaveNumber : Action → ℕ

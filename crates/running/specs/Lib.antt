@@ -1,4 +1,3 @@
-pub mod Sequences
 pub mod Sound
 pub mod Automaton
 pub mod Run

@@ -5,14 +5,12 @@ use mathlib.Core.Bool.{Bool, true, false, cond}
 use mathlib.Core.List.{List, [], _∷_}
 use lib.IntN.{ℤ}
 use lib.ListN.{length}
-use Rattle.refusals.specs.declared.Refusal.{Refusal}
 use Rattle.grammar.specs.declared.Verdict.{Verdict}
 use Rattle.grammar.specs.declared.Verdict.the-variants.{Good, Refused}
 use Rattle.trees.specs.Tree.{nodes, ruleOf, appliesRule}
-use Rattle.trees.specs.Checking.{checkTree}
-use Rattle.planning.specs.Answer.{Outcome, untouched, circularIdp, unordered, accepted, outcome}
+use Rattle.planning.specs.Answer.{Outcome, untouched, circularIdp, unordered, accepted}
 use Rattle.running.specs.declared.Ran as R
-use Rattle.running.specs.Sequences.{sequenceLength}
+use Rattle.planning.specs.Sequences.{sequenceLength}
 use Rattle.running.specs.Automaton.{Machine, started, step}
 
 -- a run comes to its end, or its budget does
@@ -43,13 +41,18 @@ runOn g p t (suc budget) count m =
 unfoldable pub ran : List ℕ → List ℕ → List ℕ → List ℤ → ℕ → Ended
 ran g p t values budget = runOn g p t budget 0 (started t values)
 
--- the total: what the lengths of the nodes' rules' sequences add up to
-unfoldable pub totalUpTo : List ℕ → List ℕ → ℕ → ℕ
-totalUpTo p t zero = 0
-totalUpTo p t (suc n) = totalUpTo p t n + cond (appliesRule t n) (sequenceLength p (ruleOf t n)) 0
+-- The total: what the lengths of the nodes' rules' sequences add up to, where lengthOf r is that of rule r
+unfoldable pub totalUpTo : (ℕ → ℕ) → List ℕ → ℕ → ℕ
+totalUpTo lengthOf t zero = 0
+totalUpTo lengthOf t (suc n) = totalUpTo lengthOf t n + cond (appliesRule t n) (lengthOf (ruleOf t n)) 0
 
+-- of the sequences themselves
+unfoldable pub totalOf : (ℕ → List ℕ) → List ℕ → ℕ
+totalOf sequence t = totalUpTo (λ r. length (sequence r)) t (nodes t)
+
+-- and of those in the words of a plan
 unfoldable pub total : List ℕ → List ℕ → ℕ
-total p t = totalUpTo p t (nodes t)
+total p t = totalUpTo (λ r. sequenceLength p r) t (nodes t)
 
 -- What a run answers and leaves in the values, where p is the plan as planning left it, planning came so far and the tree's verdict is this.
 unfoldable pub runAnswer : List ℕ → List ℕ → List ℕ → Outcome → Verdict → List ℤ → ℕ → R.Ran

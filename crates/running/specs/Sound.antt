@@ -1,21 +1,18 @@
 -- When a plan is sound for a grammar, whoever drew it up: document 02, 2026-05, without the dead symbols of 2026-04.
 -- It speaks of sets and sequences alone. Assumes nothing.
-use Prim.Native.Nat.{ℕ, suc, _+_, _-_, _≤_, _<_}
+use Prim.Native.Nat.{ℕ, suc, _-_, _≤_, _<_}
 use mathlib.Core.Path.{_≡_}
-use mathlib.Core.Logic.{_⊎_}
 use mathlib.Core.Bool.{not}
 use mathlib.Core.List.{List}
 use lib.Dec.{T}
 use Rattle.grammar.specs.Limits.{mostSymbols, mostAttributes, ruleWords}
 use Rattle.grammar.specs.Table.{
-    start, attributes, nonterminal, symbolOf, functions, target, argument, arguments, position, inheritedAt, ruleCounts, symbolCounts
+    start, attributes, nonterminal, symbolOf, functions, target, argument, arguments, position, ruleCounts, symbolCounts
 }
 use Rattle.sets.specs.Paper.{ofClass}
 use Rattle.sets.specs.Visits.{setNumber, visits}
-use Rattle.sequences.specs.Actions.{
-    Action, compute, visit, leave, decode, isAction, visitAt, makes, inheritedOf, synthesizedOf
-}
-use Rattle.running.specs.Sequences.{sequenceLength, actionAt}
+use Rattle.sequences.specs.Actions.{compute, visit, leave, decode, isAction, makes, inheritedOf, synthesizedOf}
+use Rattle.planning.specs.Sequences.{sequenceLength, actionAt}
 
 -- "synthesized attributes are in odd sets and inherited in even ones, 1 to 10"
 pub record SetFits (g p : List ℕ) (x a : ℕ) : Type 0 where

@@ -6,3 +6,5 @@ pub mod Heights
 pub mod Ready
 pub mod SequenceLaws
 pub mod Planned
+pub mod PaperActions
+pub mod PaperSequence

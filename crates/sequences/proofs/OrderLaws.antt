@@ -13,31 +13,21 @@ use Rattle.basics.proofs.TestLaws.{true-T, false-T, T-false, eq-T, below-or-not
 use Rattle.basics.proofs.ListLaws.{any-at, any-find, member-cases, member-none}
 use Rattle.sequences.specs.Actions.{actionNumbers}
 use Rattle.sequences.specs.Order.{ready, firstReady, order}
+use Rattle.sequences.specs.Paper.{Earlier}
+use Rattle.sequences.specs.Paper as rule
 use Rattle.sequences.proofs.Rising.{
     Rising, member-first, member-rest, without-member, member-without, rising-without, length-without
 }
 
--- a stands at a place before place j
-pub record Earlier (out : List ℕ) (j a : ℕ) : Type 0 where
-  pub place : ℕ
-  pub earlier : place < j
-  pub standsThere : getD out place 0 ≡ a
+-- the tie rule over a list of what remains and a test of following
+abbrev pub May : (ℕ → ℕ → Bool) → List ℕ → List ℕ → ℕ → ℕ → Type 0
+May after remaining out j a = rule.May (λ b. T (member b remaining)) (λ b c. T (after b c)) out j a
 
--- a is one of the remaining, does not stand before place j, and all that it follows do
-pub record May (after : ℕ → ℕ → Bool) (remaining out : List ℕ) (j a : ℕ) : Type 0 where
-  pub remains : T (member a remaining)
-  pub undone : Earlier out j a → ⊥
-  pub predecessors : (b : ℕ) → T (member b remaining) → T (after a b) → Earlier out j b
+abbrev pub Next : (ℕ → ℕ → Bool) → List ℕ → List ℕ → ℕ → ℕ → Type 0
+Next after remaining out j a = rule.Next (λ b. T (member b remaining)) (λ b c. T (after b c)) out j a
 
--- a is the lowest of those
-pub record Next (after : ℕ → ℕ → Bool) (remaining out : List ℕ) (j a : ℕ) : Type 0 where
-  pub may : May after remaining out j a
-  pub lowest : (b : ℕ) → b < a → May after remaining out j b → ⊥
-
--- "The next action is always the lowest-numbered one whose predecessors are done", and the list ends where there is none
-pub record TieRule (after : ℕ → ℕ → Bool) (remaining out : List ℕ) : Type 0 where
-  pub next : (j : ℕ) → j < length out → Next after remaining out j (getD out j 0)
-  pub ends : (a : ℕ) → May after remaining out (length out) a → ⊥
+abbrev pub TieRule : (ℕ → ℕ → Bool) → List ℕ → List ℕ → Type 0
+TieRule after remaining out = rule.TieRule (λ b. T (member b remaining)) (λ b c. T (after b c)) out
 
 -- nothing stands before place 0; before place j + 1 stand the first, and what stands before place j of the rest
 pub earlier-none : (out : List ℕ) (a : ℕ) → Earlier out 0 a → ⊥

@@ -4,14 +4,11 @@ use Prim.Native.Nat.{ℕ, _≤_, _<_}
 use mathlib.Core.Path.{_≡_}
 use mathlib.Core.Bool.{false}
 use mathlib.Core.List.{List}
-use native.Mathlib.Omega.{arith}
 use lib.Dec.{T, eqb→eq}
 use lib.ListN.{length}
 use Rattle.grammar.specs.declared.Verdict.the-variants.{Good}
-use Rattle.grammar.specs.Limits.{mostAttributes}
 use Rattle.grammar.specs.Table.{symbols, kind, attributes, nonterminal, ruleCounts}
 use Rattle.grammar.specs.Reading.{readTable}
-use Rattle.grammar.specs.WellFormed.{WellFormed}
 use Rattle.grammar.proofs.Accepted.{accepted}
 use Rattle.relations.specs.Computed.{arcIn, idsOf}
 use Rattle.relations.proofs.PathLaws.{path-map}
@@ -34,7 +31,7 @@ use Rattle.sequences.proofs.SequenceLaws.{sequence-short}
 pub planned-short : (g : List ℕ) (r : ℕ) → length (sequenceOf g (idsOf g) (setsOf g (idsOf g)) r) ≤ mostActions
 planned-short g r = sequence-short g (idsOf g) (setsOf g (idsOf g)) r (λ x. visits-five g (idsOf g) x)
 
-module _ (g : List ℕ) (good : readTable g ≡ Good) (none : CircularIDP g → ⊥) (ordered : Ordered g (setsOf g (idsOf g))) where
+module _ (g : List ℕ) (good : readTable g ≡ Good) (none : CircularIDP g → ⊥) (ordered : Ordered g (setNumber (setsOf g (idsOf g)))) where
   placed : (x a : ℕ) → x < symbols g → T (nonterminal g x) → a < attributes g x → Placed g (setsOf g (idsOf g)) x a
   placed x a h n l =
       let low : 1 ≤ setNumber (setsOf g (idsOf g)) x a = set-placed g good none x h (eqb→eq (kind g x) 0 n) a l in

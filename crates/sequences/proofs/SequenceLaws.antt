@@ -26,8 +26,9 @@ use Rattle.sequences.specs.Actions.{
 }
 use Rattle.sequences.specs.Follows.{follows}
 use Rattle.sequences.specs.Order.{sequenceOf}
+use Rattle.sequences.specs.Paper.{Earlier}
 use Rattle.sequences.proofs.OrderLaws.{
-    Earlier, TieRule, order-tie, order-short, order-complete, tie-one, tie-remains, tie-once, tie-after
+    TieRule, order-tie, order-short, order-complete, tie-one, tie-remains, tie-once, tie-after
 }
 use Rattle.sequences.proofs.ActionLaws.{
     ChildVisit, LeftLeave, decode-compute, decode-number, decode-injective, number-decode, compute-belongs, belongs-compute,

@@ -1,3 +1,4 @@
 pub mod Actions
 pub mod Follows
 pub mod Order
+pub mod Paper

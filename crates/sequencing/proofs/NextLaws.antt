@@ -424,7 +424,7 @@ module _ (g s rows : List ℕ) (p r : ℕ) where
       row-below o h k t =
           hasb-below 64 k _ (collect-lt 64 (λ b. edpPaths g (idsOf g) (setsOf g (idsOf g)) r o b)) (subst (λ (x : ℕ). T (hasb k x)) (given .paths o h) t)
 
-      has-path : (o b : ℕ) → o < 64 → b < 64 → T (hasb b (word rows (64 * r + o))) → Path⁺ (EDP g s r) o b
+      has-path : (o b : ℕ) → o < 64 → b < 64 → T (hasb b (word rows (64 * r + o))) → Path⁺ (EDP g (setNumber s) r) o b
       has-path o b h m t =
           edp-path-exact g (given .good) s r (lt→ltb r (rules g) (given .counts)) o b .0
           (subst (λ (x : Bool). T x) (row-path g s rows p r given o b h m) t)

@@ -11,6 +11,7 @@ use Rattle.grammar.specs.Table.{rules, ruleAt}
 use Rattle.grammar.specs.Reading.{readTable}
 use Rattle.relations.specs.Computed.{idsOf}
 use Rattle.sets.specs.Computed.{setsOf}
+use Rattle.sets.specs.Visits.{setNumber}
 use Rattle.ordered.specs.Paper.{CircularIDP, Ordered}
 use Rattle.planning.specs.Answer.{edpPaths}
 
@@ -22,7 +23,7 @@ pub record Given (g s rows : List ℕ) (p r : ℕ) : Type 0 where
   pub starts : p ≡ ruleAt g r
   pub sets : s ≡ setsOf g (idsOf g)
   pub noncircular : CircularIDP g → ⊥
-  pub ordered : Ordered g (setsOf g (idsOf g))
+  pub ordered : Ordered g (setNumber (setsOf g (idsOf g)))
   pub room : 64 * rules g ≤ length rows
   pub paths : (o : ℕ) → o < 64 → word rows (64 * r + o) ≡ collect 64 (λ b. edpPaths g (idsOf g) (setsOf g (idsOf g)) r o b)
 

@@ -5,3 +5,4 @@ pub mod Largest
 pub mod Placed
 pub mod SetWords
 pub mod Visits
+pub mod OneNumbering

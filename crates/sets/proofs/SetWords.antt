@@ -24,7 +24,7 @@ use Rattle.sets.proofs.Placed.{all-placed, are-the-sets, only-first-emp
 
 module _ (g ids : List ℕ) where
   -- zeros for what is no nonterminal of the table
-  zeros-for-others : (x : ℕ) → (x < symbols g → kind g x ≡ 0 → ⊥) → setsOfSymbol g ids x ≡ replicate mostAttributes 0
+  pub zeros-for-others : (x : ℕ) → (x < symbols g → kind g x ≡ 0 → ⊥) → setsOfSymbol g ids x ≡ replicate mostAttributes 0
   unfolding setsOfSymbol
   zeros-for-others x q =
       go (symbolCounts g x and nonterminal g x) (λ t. q (ltb→lt x (symbols g) (and-left _ _ t)) (eqb→eq (kind g x) 0 (and-right _ _ t)))
@@ -43,7 +43,7 @@ module _ (g ids : List ℕ) where
       go true t = refl
       go false t = absurd t
 
-  nonterminal-or-not : (x : ℕ) → ((x < symbols g) × (kind g x ≡ 0)) ⊎ (x < symbols g → kind g x ≡ 0 → ⊥)
+  pub nonterminal-or-not : (x : ℕ) → ((x < symbols g) × (kind g x ≡ 0)) ⊎ (x < symbols g → kind g x ≡ 0 → ⊥)
   nonterminal-or-not x =
       ⊎-elim (λ l. ⊎-elim (λ e. inl (l, e)) (λ d. inr (λ i e. d e)) (same-or-not (kind g x) 0)) (λ l. inr (λ i e. omega arith))
       (below-or-not x (symbols g))

@@ -1,7 +1,7 @@
 -- Visits: a set number belongs to a visit from 1 to v, sets 1 and 2 to the last, and visit n has one even and one odd set.
 -- First for any set words, then for those of a plan, where m is at most 9 and v at most 5. Assumes nothing.
-use Prim.Native.Nat.{ℕ, zero, suc, _+_, _*_, _-_, _%_, _≤_, _<_}
-use mathlib.Core.Path.{_≡_, _∙_, ap}
+use Prim.Native.Nat.{ℕ, zero, suc, _+_, _*_, _-_, _%_, _≤_, _<_, max}
+use mathlib.Core.Path.{_≡_, refl, _∙_, ap, ap₂}
 use mathlib.Core.Logic.{⊎-elim}
 use mathlib.Core.Bool.{not}
 use mathlib.Core.List.{List}
@@ -37,6 +37,12 @@ highest-reached (suc n) f h =
     ⊎-elim
     (λ l. let w = highest-reached n f (omega arith) in (w .0, omega (arith, w .1), omega (arith, w .2)))
     (λ l. (n, omega arith, omega arith)) (below-or-not (f n) (highest n f))
+
+-- it depends on the numbers below n alone
+pub highest-same : (n : ℕ) (f h : ℕ → ℕ) → ((i : ℕ) → i < n → f i ≡ h i) → highest n f ≡ highest n h
+unfolding highest
+highest-same zero f h e = refl
+highest-same (suc n) f h e = ap₂ max (highest-same n f h (λ i l. e i (omega arith))) (e n (omega arith))
 
 module _ (s : List ℕ) (x : ℕ) where
   -- m is the highest of the set numbers

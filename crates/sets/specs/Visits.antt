@@ -23,12 +23,18 @@ abbrev pub halfUp : ℕ → ℕ
 halfUp k = (k + 1) / 2
 
 -- "The symbol has v = m/2 rounded up visits, but at least 1"
+abbrev pub visitsFor : ℕ → ℕ
+visitsFor m = max 1 (halfUp m)
+
 unfoldable pub visits : List ℕ → ℕ → ℕ
-visits s x = max 1 (halfUp (lastSet s x))
+visits s x = visitsFor (lastSet s x)
 
 -- "Set k belongs to visit v + 1 - (k/2 rounded up)"
+abbrev pub visitFor : ℕ → ℕ → ℕ
+visitFor v k = v + 1 - halfUp k
+
 unfoldable pub visitOfSet : List ℕ → ℕ → ℕ → ℕ
-visitOfSet s x k = visits s x + 1 - halfUp k
+visitOfSet s x k = visitFor (visits s x) k
 
 -- the visit of attribute a of symbol x
 unfoldable pub visitOf : List ℕ → ℕ → ℕ → ℕ

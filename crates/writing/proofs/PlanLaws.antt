@@ -1,14 +1,14 @@
 -- How the code types the lines of a plan, and that they are the lines of the grammar.
 -- Assumes nothing.
-use Prim.Native.Nat.{ℕ, zero, suc, _+_, _*_, _-_, _≤_, _<_}
-use mathlib.Core.Path.{_≡_, refl, sym, _∙_, ap, ap₂, subst, subst⁻¹}
+use Prim.Native.Nat.{ℕ, zero, suc, _+_, _*_, _≤_, _<_}
+use mathlib.Core.Path.{_≡_, refl, sym, _∙_, ap, ap₂, subst}
 use mathlib.Core.Bool.{Bool, true, false, cond, not}
 use mathlib.Core.List.{List, [], _∷_, _++_}
 use native.Mathlib.Omega.{arith}
 use lib.Dec.{T}
 use lib.ListN.{length, getD}
 use lib.Seq.{ext-getD}
-use Rattle.basics.specs.Lists.{word, tabulate, blocks}
+use Rattle.basics.specs.Lists.{tabulate, blocks}
 use Rattle.basics.proofs.TestLaws.{chosen, passed-over, true-T, false-T}
 use Rattle.basics.proofs.ListLaws.{length-tabulate, getD-tabulate}
 use Rattle.grammar.specs.declared.Verdict.the-variants.{Good}
@@ -22,14 +22,14 @@ use Rattle.sets.specs.Visits.{setNumber, visits}
 use Rattle.sequences.specs.Order.{sequenceOf}
 use Rattle.planning.specs.Buffers.{over}
 use Rattle.planning.specs.Answer.{sequencesOf, acceptedPlan}
-use Rattle.running.specs.Sequences.{sequenceLength, actionAt}
-use Rattle.running.proofs.PlannedSound.{numbers-same, length-is, action-is}
+use Rattle.planning.specs.Sequences.{sequenceLength, actionAt}
+use Rattle.planning.proofs.PlanWords.{numbers-same, sequence-stands}
 use Rattle.running.proofs.SameSets.{visits-same}
 use Rattle.text.specs.Lines.{decimal, spaced, line, symbolWord, ruleWord, planWord}
 use Rattle.text.specs.Listing.{firstLine, symbolLine, ruleLine, planText}
 use Rattle.writing.specs.Shown.{Shows, Adds, actionsOf, ruleLineOf, planLines}
 use Rattle.writing.proofs.ShownLaws.{adds-none, adds-then, adds-same, from-start}
-use Rattle.writing.proofs.LineLaws.{numbers-turn, led-line, numbered-line, two-line, blocks-end}
+use Rattle.writing.proofs.LineLaws.{numbers-turn, led-line, numbered-line, two-line}
 
 -- the first line
 pub first-line-typed : {o o₁ o₂ o₃ o₄ : List ℕ} {a a₁ a₂ a₃ a₄ : ℕ} (g : List ℕ) (x y : ℕ) → x ≡ symbols g → y ≡ rules g
@@ -114,7 +114,7 @@ module _ (g : List ℕ) (good : readTable g ≡ Good) (lent : List ℕ) where
   symbol-same : (x : ℕ) → x < symbols g → symbolLine g p x ≡ symbolLine g s x
   unfolding symbolLine
   symbol-same x h =
-      let all : (y a : ℕ) → y < 32 → a < 8 → setNumber p y a ≡ setNumber s y a = numbers-same g good lent in
+      let all : (y a : ℕ) → y < 32 → a < 8 → setNumber p y a ≡ setNumber s y a = numbers-same g lent in
       let numbers : (a : ℕ) → a < 8 → setNumber p x a ≡ setNumber s x a = λ a l. all x a (omega (arith, w .symbolsFit)) l in
       let few : attributes g x ≤ 8 = w .symbol x h .attributesFit in
       ap (λ (l : List ℕ). cond (nonterminal g x) l [])
@@ -126,10 +126,10 @@ module _ (g : List ℕ) (good : readTable g ≡ Good) (lent : List ℕ) where
   actions-same r h =
       let out : List ℕ = sequenceOf g (idsOf g) s r in
       let long : length (actionsOf p r) ≡ length (sequenceOf g (idsOf g) s r) =
-              length-tabulate (sequenceLength p r) (λ j. actionAt p r j) ∙ length-is g good lent r h in
+              length-tabulate (sequenceLength p r) (λ j. actionAt p r j) ∙ sequence-stands g lent r h .lengthIs in
       ext-getD 0 (actionsOf p r) (sequenceOf g (idsOf g) s r) long
-      (λ j l. getD-tabulate (sequenceLength p r) (λ k. actionAt p r k) 0 j (omega (arith, long, length-is g good lent r h))
-      ∙ action-is g good lent r h j (omega (arith, long)))
+      (λ j l. getD-tabulate (sequenceLength p r) (λ k. actionAt p r k) 0 j (omega (arith, long, sequence-stands g lent r h .lengthIs))
+      ∙ sequence-stands g lent r h .actionIs j (omega (arith, long)))
 
   -- the lines of the plan are the listing of the table
   pub lines-of-plan : planLines g p ≡ planText g

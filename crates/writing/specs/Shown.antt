@@ -1,14 +1,14 @@
 -- A text typed into a lent buffer, as far as there is room, and the lines of a plan as they are read off its words.
 -- Assumes nothing.
-use Prim.Native.Nat.{ℕ, _+_, min}
+use Prim.Native.Nat.{ℕ, min}
 use mathlib.Core.Path.{_≡_}
-use mathlib.Core.List.{List, [], _∷_, _++_}
+use mathlib.Core.List.{List, _∷_, _++_}
 use lib.ListN.{length, take}
 use Rattle.basics.specs.Lists.{tabulate, blocks}
 use Rattle.grammar.specs.Table.{symbols, rules}
 use Rattle.planning.specs.Buffers.{over}
-use Rattle.running.specs.Sequences.{sequenceLength, actionAt}
-use Rattle.text.specs.Lines.{spaced, line, ruleWord}
+use Rattle.planning.specs.Sequences.{sequenceLength, actionAt}
+use Rattle.text.specs.Lines.{line, ruleWord}
 use Rattle.text.specs.Listing.{firstLine, symbolLine}
 
 -- The start of the lent bytes holds the text, or as much of it as there is room for; the others stay. at bytes are typed.

@@ -1,22 +1,11 @@
 use borrow.Author.Needs.{needs}
 use Rattle.writing.specs.Shown.{Adds, ruleLineOf}
 use Rattle.writing.proofs.LineLaws as line
-use Rattle.writing.proofs.PlanLaws as plans
-use Rattle.writing.proofs.ShownLaws as shown
-use Prim.Native.Nat.{_-_, _+_, _*_, _≤_}
-use lib.ListN.{length, take}
-use Rattle.basics.specs.Lists.{tabulate, blocks}
-use Rattle.sets.specs.Visits.{setNumber}
-use Rattle.running.specs.Sequences.{actionAt}
-use Rattle.text.specs.Lines.{spaced}
-use Rattle.text.specs.Listing.{symbolLine}
+use Prim.Native.Nat.{_-_, _≤_}
+use Rattle.basics.specs.Lists.{blocks}
 use native.Mathlib.Omega.{arith}
 use Rattle.writing.proofs.rule_lines.Statement.{statement}
 use Rattle.writing.proofs.rule_lines.Tie as tie
-use Rattle.writing.proofs.rule_lines.Reads as reads
-use Rattle.writing.proofs.rule_lines.Lts as lts
-use Rattle.reader.proofs.word.Reads as word-reads
-use Rattle.writing.proofs.rule_line.Reads as rule-line-reads
 
 abbrev Inv-loop : tie.InvT-loop
 Inv-loop words plan out₀ at to₀ r₀ r-end out to r = (r ≤ r-end) × Adds out₀ to₀ (blocks r (λ k. ruleLineOf plan k)) out to

@@ -1,27 +1,15 @@
 use mathlib.Core.Path.{_∙_}
-use Rattle.writing.specs.Shown.{Adds, ruleLineOf}
+use Rattle.writing.specs.Shown.{Adds}
 use Rattle.writing.proofs.LineLaws as line
 use Rattle.writing.proofs.PlanLaws as plans
-use Rattle.writing.proofs.ShownLaws as shown
-use Prim.Native.Nat.{_-_, _+_, _*_, _≤_}
-use lib.ListN.{length, take}
-use Rattle.basics.specs.Lists.{tabulate, blocks}
+use Prim.Native.Nat.{_-_, _≤_}
+use Rattle.basics.specs.Lists.{tabulate}
 use Rattle.sets.specs.Visits.{setNumber}
-use Rattle.running.specs.Sequences.{actionAt}
 use Rattle.text.specs.Lines.{spaced}
-use Rattle.text.specs.Listing.{symbolLine}
 use native.Mathlib.Omega.{arith}
 use borrow.Author.Needs.{needs}
 use Rattle.writing.proofs.symbol_line.Statement.{statement}
 use Rattle.writing.proofs.symbol_line.Tie as tie
-use Rattle.writing.proofs.symbol_line.Reads as reads
-use Rattle.writing.proofs.symbol_line.Lts as lts
-use Rattle.reader.proofs.attributes.Reads as attributes-reads
-use Rattle.reader.proofs.nonterminal.Reads as nonterminal-reads
-use Rattle.reader.proofs.word.Reads as word-reads
-use Rattle.sequencing.proofs.visits_of.Reads as visits-of-reads
-use Rattle.writing.proofs.number.Reads as number-reads
-use Rattle.writing.proofs.put.Reads as put-reads
 
 abbrev Inv-loop : tie.InvT-loop
 Inv-loop words plan x out₀ at begun named to₀ a₀ a-end out to a =

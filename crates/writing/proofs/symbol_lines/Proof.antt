@@ -1,22 +1,12 @@
 use borrow.Author.Needs.{needs}
-use Rattle.writing.specs.Shown.{Adds, ruleLineOf}
+use Rattle.writing.specs.Shown.{Adds}
 use Rattle.writing.proofs.LineLaws as line
-use Rattle.writing.proofs.PlanLaws as plans
-use Rattle.writing.proofs.ShownLaws as shown
-use Prim.Native.Nat.{_-_, _+_, _*_, _≤_}
-use lib.ListN.{length, take}
-use Rattle.basics.specs.Lists.{tabulate, blocks}
-use Rattle.sets.specs.Visits.{setNumber}
-use Rattle.running.specs.Sequences.{actionAt}
-use Rattle.text.specs.Lines.{spaced}
+use Prim.Native.Nat.{_-_, _≤_}
+use Rattle.basics.specs.Lists.{blocks}
 use Rattle.text.specs.Listing.{symbolLine}
 use native.Mathlib.Omega.{arith}
 use Rattle.writing.proofs.symbol_lines.Statement.{statement}
 use Rattle.writing.proofs.symbol_lines.Tie as tie
-use Rattle.writing.proofs.symbol_lines.Reads as reads
-use Rattle.writing.proofs.symbol_lines.Lts as lts
-use Rattle.reader.proofs.word.Reads as word-reads
-use Rattle.writing.proofs.symbol_line.Reads as symbol-line-reads
 
 abbrev Inv-loop : tie.InvT-loop
 Inv-loop words plan out₀ at to₀ x₀ x-end out to x = (x ≤ x-end) × Adds out₀ to₀ (blocks x (λ k. symbolLine words plan k)) out to

@@ -1,6 +1,6 @@
 -- The sequences as they stand in the words of a plan: "From 256 + 112r: length, actions, zeros".
 -- Assumes nothing.
-use Prim.Native.Nat.{ℕ, zero, suc, _+_, _*_}
+use Prim.Native.Nat.{ℕ, _+_, _*_}
 use mathlib.Core.List.{List}
 use Rattle.basics.specs.Lists.{word}
 use Rattle.grammar.specs.Limits.{setWords, ruleWords}
