@@ -1,6 +1,6 @@
 -- The laws of one bit: of sums of powers, of or and and, and that a number is its bits.
 -- Each is proved once, over the index or the width, by halving. Assumes nothing.
-use Prim.Native.Nat.{ℕ, zero, suc, _-_, _/_, _%_, _^_, _≤_, _<_, min, max}
+use Prim.Native.Nat.{ℕ, zero, suc, _+_, _-_, _/_, _%_, _^_, _≤_, _<_, min, max}
 use native.Mathlib.Nat.{div-one, zero-div, div-div-eq-div-mul, div-eq-of-lt, lt-of-lt-of-le, mul-comm, pow-suc}
 use native.Mathlib.Omega.{arith}
 use mathlib.Core.Path.{_≡_, refl, sym, ap, _∙_}
@@ -8,7 +8,7 @@ use mathlib.Core.Bool.{true, false}
 use mathlib.Core.Logic.{_⊎_, inl, inr}
 use borrow.Author.Tests.{eqb-true, eq-eqb, ne-eqb}
 use lib.Bits.{bitAnd, bitOr, or-step, and-step, or-shr, and-shr}
-use lib.Pow.{pow-pos, pow-mono}
+use lib.Pow.{pow-pos, pow-mono, pow-lt}
 use Rattle.bits.specs.Bit.{bit, number, hasb}
 
 pub bit-zero : (x : ℕ) → bit 0 x ≡ x % 2
@@ -44,6 +44,16 @@ bit-ext (suc w) x y h k e =
     omega arith
 
 -- ---- or and and
+
+-- a number is below two to itself, so numbers with the same bits are one, whatever their width
+below-pow : (n : ℕ) → n < 2 ^ n
+below-pow zero = omega arith
+below-pow (suc n) = omega (arith, below-pow n, pow-lt {i = n} {j = suc n} (omega arith))
+
+pub bits-ext : (x y : ℕ) → ((i : ℕ) → bit i x ≡ bit i y) → x ≡ y
+bits-ext x y same =
+    bit-ext (x + y) x y (omega (arith, below-pow x, pow-mono {i = x} {j = x + y} (omega arith)))
+    (omega (arith, below-pow y, pow-mono {i = y} {j = x + y} (omega arith))) (λ i h. same i)
 
 pub bit-or : (i a b : ℕ) → bit i (bitOr a b) ≡ max (bit i a) (bit i b)
 bit-or i a b = ap (λ (n : ℕ). n % 2) (or-shr a b i) ∙ low (a / 2 ^ i) (b / 2 ^ i)

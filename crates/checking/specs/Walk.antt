@@ -1,5 +1,5 @@
 -- What the walks over a tree are handed and hand on.
--- Assumes nothing.
+-- For proofs of the code: no demand rests on it. Assumes nothing.
 use Prim.Native.Nat.{ℕ, zero, suc, _+_, _*_, _≤_, _<_}
 use mathlib.Core.Path.{_≡_}
 use mathlib.Core.Bool.{Bool, true, cond}

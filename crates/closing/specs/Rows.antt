@@ -1,6 +1,6 @@
 -- The relation of one rule in 64 lent rows, from a word called base on: bit b of row o says that a path leads from o to b.
 -- The rows are kept closed: 000's addarctrans adds an arc and all that it joins, and here all arcs from one set to another are added
--- together. Assumes nothing.
+-- together. For proofs of the code: no demand rests on it. Assumes nothing.
 use Prim.Native.Nat.{ℕ, _+_, _*_, _-_, _/_, _%_}
 use mathlib.Core.Bool.{Bool, cond}
 use mathlib.Core.List.{List}

@@ -31,7 +31,8 @@ use Rattle.trees.proofs.Accepted.{accepted-tree}
 use Rattle.running.specs.declared.Ran as R
 use Rattle.running.specs.Sound.{Sound}
 use Rattle.running.specs.Automaton.{Machine}
-use Rattle.running.specs.Run.{ran, totalOf, total, runAnswer, valuesAfter}
+use Rattle.running.specs.Totals.{totalOf, total}
+use Rattle.running.specs.Run.{ran, runAnswer, valuesAfter}
 use Rattle.running.proofs.PlannedSound.{planned-sound}
 use Rattle.running.proofs.Totals.{total-stands}
 use Rattle.running.proofs.EverySoundPlan as run
@@ -45,14 +46,14 @@ use Rattle.cases.proofs.TreeTests.{tree-place}
 use Rattle.cases.proofs.PlanTests.{plan-walk}
 use Rattle.cases.proofs.Refusals.{outcome-accepted, planning-refused, planning-accepted, tree-good, run-refused}
 use Rattle.cases.proofs.Leaves.{tree-late, values-stay}
-use Rattle.demands.specs.Demands.{Demand1, Demand1Run, Demand2, Demand3}
+use Rattle.demands.specs.Demands.{Demand1, Demand1Run, Given, Demand2, Demand3, Demand3Run}
 use Rattle.demands.proofs.LeavesLaws.{accepted-read, written-accepted, leaves-of}
 
 module _ (g rows plan : List ℕ) where
   abbrev came : Outcome
   came = outcome g (length rows) (length plan)
 
-  computed-1 : Demand1 g rows plan (answerOf g came) (rowsAfter g came rows) (planAfter g came plan)
+  pub computed-1 : Demand1 g rows plan (answerOf g came) (rowsAfter g came rows) (planAfter g came plan)
   computed-1 =
       record {
           refuses = planning-refused g (length rows) (length plan);
@@ -71,18 +72,18 @@ module _ (g rows plan : List ℕ) where
       (subst⁻¹ (λ (x : List ℕ). Demand1 g rows plan (answerOf g came) x plan′) (w .rowsAre)
       (subst⁻¹ (λ (x : List ℕ). Demand1 g rows plan (answerOf g came) (rowsAfter g came rows) x) (w .planIs) computed-1))
 
-  -- Demand 2. "A well-formed table given enough room": "at least 64R", "at least 256 + 112R".
-  module _ (formed : WellFormed g) (rowsRoom : rowWords (rules g) ≤ length rows) (planRoom : planWords (rules g) ≤ length plan) where
+  -- Demand 2, of a well-formed table with room.
+  module _ (given : Given g rows plan) where
     good : readTable g ≡ Good
-    good = read-exactly g .1 formed
+    good = read-exactly g .1 (given .formed)
 
     space : room g (length rows) (length plan) ≡ Good
-    space = sym (both-long g (length rows) (length plan) (rules g) refl rowsRoom planRoom)
+    space = sym (both-long g (length rows) (length plan) (rules g) refl (given .rowsRoom) (given .planRoom))
 
     ordered-came : IsOrdered g → came ≡ accepted
     ordered-came o = accepted-exactly g good (length rows) (length plan) space .1 o
 
-    computed-2 : Demand2 g (answerOf g came) (rowsAfter g came rows) (planAfter g came plan)
+    pub computed-2 : Demand2 g (answerOf g came) (rowsAfter g came rows) (planAfter g came plan)
     unfolding planAfter
     computed-2 =
         record {
@@ -97,9 +98,9 @@ module _ (g rows plan : List ℕ) where
             setsExist = λ free. (computedSets g, sets-exist g good free);
             oneNumbering = one-numbering g;
             neighbouring = λ free set sets. neighbouring-same g good free set sets;
-            sequence = λ o r c. (_, sequence-obeys g good (ordered-idp g formed o) (o .set) (o .areSets) r c);
+            sequence = λ o r c. (_, sequence-obeys g good (ordered-idp g (given .formed) o) (o .set) (o .areSets) r c);
             oneSequence = λ o r c s t v w.
-                let only = sequence-only g good (ordered-idp g formed o) (o .set) (o .areSets) r c in only s v ∙ sym (only t w);
+                let only = sequence-only g good (ordered-idp g (given .formed) o) (o .set) (o .areSets) r c in only s v ∙ sym (only t w);
             noneLeftOut = λ o r c. none-left-out g good o (o .set) (o .areSets) r c;
             sound = λ o.
                 let f = ordered-free g good o in
@@ -132,14 +133,14 @@ module _ (g rows plan t : List ℕ) (v : List ℤ) (budget : ℕ) where
   reached = outcome g (length rows) (length plan)
 
   -- a case of planning is the first of all cases exactly where it is the first of planning's
-  plan-first : (n : Refusal) → Refuses g (length rows) (length plan) t (length v) n → walk g n ≤ readyWalk → PlanRefuses g (length rows) (length plan) n
+  pub plan-first : (n : Refusal) → Refuses g (length rows) (length plan) t (length v) n → walk g n ≤ readyWalk → PlanRefuses g (length rows) (length plan) n
   plan-first n f h = record { applies = of-plan (f .applies); noEarlier = λ m c. f .noEarlier m (inPlan c) }
     where
       of-plan : RunCase g (length rows) (length plan) t (length v) n → PlanCase g (length rows) (length plan) n
       of-plan (inPlan c) = c
       of-plan (inTree c) = absurd (omega (arith, tree-place g t (length v) n c .late))
 
-  computed-1-run : Demand1Run g rows plan t v (whole.answer g rows plan t v budget) (whole.values g rows plan t v budget)
+  pub computed-1-run : Demand1Run g rows plan t v (whole.answer g rows plan t v budget) (whole.values g rows plan t v budget)
       (rowsAfter g reached rows) (planAfter g reached plan)
   computed-1-run =
       record {
@@ -148,6 +149,7 @@ module _ (g rows plan t : List ℕ) (v : List ℤ) (budget : ℕ) where
               let f = run-refused g rows plan t v budget n .0 e in
               leaves-of g rows plan n (plan-first n f) (tree-late g rows plan t v budget n f);
           valuesStay = λ n e. values-stay g rows plan t v budget n (run-refused g rows plan t v budget n .0 e);
+          written = λ none. written-accepted g rows plan (outcome-accepted g (length rows) (length plan) .1 (λ n c. none n (inPlan c)));
           stays = record { rowsBeyond = rows-stay g rows plan; planBeyond = plan-stay g rows plan }
       }
 
@@ -162,12 +164,12 @@ module _ (g rows plan t : List ℕ) (v : List ℤ) (budget : ℕ) where
       (subst⁻¹ (λ (x : List ℕ). Demand1Run g rows plan t v (whole.answer g rows plan t v budget) (whole.values g rows plan t v budget) (rowsAfter g reached rows) x)
       (w .planIs) computed-1-run)))
 
-  -- Demand 3, of `run`, where no case of 1 to 18 applies. The total is summed over the tie rule's sequences.
+  -- Demand 3, of `run`, where no case of 1 to 18 applies.
   module _ (none : (n : Refusal) → ¬ RunCase g (length rows) (length plan) t (length v) n) where
-    is-accepted : reached ≡ accepted
+    pub is-accepted : reached ≡ accepted
     is-accepted = outcome-accepted g (length rows) (length plan) .1 (λ n c. none n (inPlan c))
 
-    is-read : readTable g ≡ Good
+    pub is-read : readTable g ≡ Good
     is-read = accepted-read g rows plan is-accepted
 
     is-tree : checkTree g t (length v) ≡ Good
@@ -203,10 +205,10 @@ module _ (g rows plan t : List ℕ) (v : List ℤ) (budget : ℕ) where
         ∙ (ap (λ (o : Outcome). valuesAfter g p t o (checkTree g t (length v)) v budget) is-accepted
         ∙ ap (λ (c : Verdict). valuesAfter g p t accepted c v budget) is-tree)))
 
-    pub demand-3 : (ran′ : R.Ran) (v′ : List ℤ) (rows′ plan′ : List ℕ) → runner.Answered g rows plan t v budget ran′ v′ rows′ plan′
+    runs : (ran′ : R.Ran) (v′ : List ℤ) (rows′ plan′ : List ℕ) → runner.Answered g rows plan t v budget ran′ v′ rows′ plan′
         → (o : IsOrdered g) (sequence : ℕ → List ℕ) → ((r : ℕ) → T (ruleCounts g r) → Sequence g (o .set) r (sequence r))
         → Demand3 g plan′ t v budget (totalOf sequence t) ran′ v′
-    demand-3 ran′ v′ rows′ plan′ w o sequence are =
+    runs ran′ v′ rows′ plan′ w o sequence are =
         let e = is-run ran′ v′ rows′ plan′ w in
         let formed : WellFormed g = read-exactly g .0 is-read in
         let added : total p t ≡ totalOf sequence t =
@@ -218,3 +220,7 @@ module _ (g rows plan t : List ℕ) (v : List ℤ) (budget : ℕ) where
         (subst⁻¹ (λ (x : List ℤ). Demand3 g p t v budget (totalOf sequence t) (ran g p t v budget .answer) x) (e .2)
         (subst (λ (n : ℕ). Demand3 g p t v budget n (ran g p t v budget .answer) (ran g p t v budget .machine .values)) added
         (demand-3-sound g p t v budget formed planned (λ n c. none n (inTree c))))))
+
+    pub demand-3 : (ran′ : R.Ran) (v′ : List ℤ) (rows′ plan′ : List ℕ) → runner.Answered g rows plan t v budget ran′ v′ rows′ plan′
+        → Demand3Run g t v budget ran′ v′ plan′
+    demand-3 ran′ v′ rows′ plan′ w = record { ordered = run-ordered; runs = runs ran′ v′ rows′ plan′ w }

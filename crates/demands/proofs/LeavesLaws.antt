@@ -43,10 +43,10 @@ module _ (g rows plan : List ℕ) where
   came = outcome g (length rows) (length plan)
 
   -- a case after the reader's comes of a table that is read, one after 9 of a table with no cycle in an IDP
-  read-past : (n : Refusal) → PlanRefuses g (length rows) (length plan) n → ruleWalk < walk g n → readTable g ≡ Good
+  pub read-past : (n : Refusal) → PlanRefuses g (length rows) (length plan) n → ruleWalk < walk g n → readTable g ≡ Good
   read-past n f h = table-good g .1 (λ m c. f .noEarlier m (inTable c) (earlierWalk (omega (arith, table-walk g m c))))
 
-  free-past : (n : Refusal) → PlanRefuses g (length rows) (length plan) n → idpWalk < walk g n → CircularIDP g → ⊥
+  pub free-past : (n : Refusal) → PlanRefuses g (length rows) (length plan) n → idpWalk < walk g n → CircularIDP g → ⊥
   free-past n f h k =
       f .noEarlier (CircularIdp (k .0) (k .2 .0)) (inPlanning (case.idpCycle (k .0) (k .2 .0) (k .1) (k .2 .1))) (earlierWalk h)
 

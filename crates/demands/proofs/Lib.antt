@@ -1,2 +1,3 @@
 pub mod LeavesLaws
 pub mod Demands
+pub mod Determined

@@ -12,6 +12,7 @@ use lib.ListN.{length}
 use Rattle.refusals.specs.declared.Refusal.{Refusal}
 use Rattle.grammar.specs.Limits.{rowWords, planWords}
 use Rattle.grammar.specs.Table.{rules, functions, target, argument, arguments, position, ruleCounts}
+use Rattle.grammar.specs.WellFormed.{WellFormed}
 use Rattle.relations.specs.Paper.{IDP⁺, Path⁺}
 use Rattle.ordered.specs.Paper.{PaperSets, Neighbouring, CircularIDP, IsOrdered}
 use Rattle.sequences.specs.Paper.{Sequence, LeftOut}
@@ -23,10 +24,11 @@ use Rattle.trees.specs.Definers.{AttributeOf}
 use Rattle.running.specs.declared.Ran as R
 use Rattle.running.specs.Sound.{Sound}
 use Rattle.running.specs.Depth.{longestDown}
+use Rattle.running.specs.Totals.{totalOf}
 use Rattle.running.specs.Computing.{machineAt, Computing, ComputedBefore, ExactlyOnce}
 use Rattle.cases.specs.First.{roomWalk, idpWalk, readyWalk, walk}
 use Rattle.cases.specs.Planning.{PlanCase}
-use Rattle.cases.specs.All.{PlanRefuses, Refuses}
+use Rattle.cases.specs.All.{RunCase, PlanRefuses, Refuses}
 
 -- 1. "Every table, tree and buffer size gets an answer. Input is refused exactly where a numbered case applies, by that number at a
 -- stated place, and what each refusal leaves in the caller's buffers is fixed."
@@ -55,15 +57,25 @@ pub record Demand1 (g rows plan : List ℕ) (answer : P.Planned) (rows′ plan�
   pub leaves : (n : Refusal) → answer ≡ P.the-variants.Refused n → Leaves g rows plan n rows′ plan′
   pub stays : Stays g rows plan rows′ plan′
 
--- of `run`: it refuses with the first of the cases 1 to 18 that applies, and leaves the values
+-- of `run`: it refuses with the first of the cases 1 to 18 that applies, and leaves the values; where none applies, rows and plan are written
 pub record Demand1Run (g rows plan t : List ℕ) (v : List ℤ) (ran : R.Ran) (v′ : List ℤ) (rows′ plan′ : List ℕ) : Type 1 where
   pub refuses : (n : Refusal) → (ran ≡ R.the-variants.Refused n) ↔ Refuses g (length rows) (length plan) t (length v) n
   pub leaves : (n : Refusal) → ran ≡ R.the-variants.Refused n → Leaves g rows plan n rows′ plan′
   pub valuesStay : (n : Refusal) → ran ≡ R.the-variants.Refused n → v′ ≡ v
+  pub written : ((n : Refusal) → ¬ RunCase g (length rows) (length plan) t (length v) n) → (set : ℕ → ℕ → ℕ) → PaperSets g set
+      → Written g set rows′ plan′
   pub stays : Stays g rows plan rows′ plan′
 
 -- 2. "The dependency relations, sets and visit-sequences are those of the 1980 paper, ties to the lowest action number. A well-formed
--- table given enough room is accepted exactly if the paper calls it ordered." Of a table that is well formed, with room:
+-- table given enough room is accepted exactly if the paper calls it ordered."
+
+-- a well-formed table, and room: "at least 64R", "at least 256 + 112R"
+pub record Given (g rows plan : List ℕ) : Type 0 where
+  pub formed : WellFormed g
+  pub rowsRoom : rowWords (rules g) ≤ length rows
+  pub planRoom : planWords (rules g) ≤ length plan
+
+-- what `plan` answers and leaves for it
 pub record Demand2 (g : List ℕ) (answer : P.Planned) (rows′ plan′ : List ℕ) : Type 1 where
   pub acceptedExactly : (answer ≡ P.the-variants.Accepted (planWords (rules g))) ↔ IsOrdered g
   -- rows, sets and sequences of what is accepted
@@ -82,7 +94,9 @@ pub record Demand2 (g : List ℕ) (answer : P.Planned) (rows′ plan′ : List �
 
 -- 3. "A run takes exactly as many actions as the lengths of its nodes' rules' sequences add up to. Each attribute of each nonterminal node
 -- is computed once, after all its arguments, and the values are the only ones that satisfy the equations for the terminals' values given.
--- A smaller budget stops after exactly that many actions of the same run." Of a run by the sequences in the words p:
+-- A smaller budget stops after exactly that many actions of the same run."
+
+-- a run by the sequences in the words p, which takes so many actions in all
 pub record Demand3 (g p t : List ℕ) (v : List ℤ) (budget total : ℕ) (ran : R.Ran) (v′ : List ℤ) : Type 0 where
   pub done : total ≤ budget → ran ≡ R.the-variants.Done total
   pub stopped : budget < total → ran ≡ R.the-variants.Stopped budget
@@ -99,3 +113,9 @@ pub record Demand3 (g p t : List ℕ) (v : List ℤ) (budget total : ℕ) (ran :
   pub others : (c : ℕ) → ((n a : ℕ) → c ≡ 8 * n + a → T (appliesRule t n) → ¬ AttributeOf g t n a) → valueAt v′ c ≡ valueAt v c
   -- "The stack never exceeds the number of nonterminals on the longest path down."
   pub stackBound : (k : ℕ) → length (machineAt g p t v k .stack) ≤ longestDown g t
+
+-- of `run`, where no case of 1 to 18 applies: the grammar is ordered, and the total is summed over the tie rule's sequences
+pub record Demand3Run (g t : List ℕ) (v : List ℤ) (budget : ℕ) (ran : R.Ran) (v′ : List ℤ) (plan′ : List ℕ) : Type 1 where
+  pub ordered : IsOrdered g
+  pub runs : (o : IsOrdered g) (sequence : ℕ → List ℕ) → ((r : ℕ) → T (ruleCounts g r) → Sequence g (o .set) r (sequence r))
+      → Demand3 g plan′ t v budget (totalOf sequence t) ran v′

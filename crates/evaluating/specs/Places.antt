@@ -1,5 +1,6 @@
 -- The value of the function that starts at word f of a table, by the values at node n of a tree.
--- A run knows a function by its word; proofs/PlaceLaws.antt shows that this is the value that trees' Equations give. Assumes nothing.
+-- A run knows a function by its word; proofs/PlaceLaws.antt shows that this is the value that trees' Equations give.
+-- Computed: no demand rests on it. Assumes nothing.
 use Prim.Native.Nat.{ℕ, _+_}
 use mathlib.Core.Bool.{cond}
 use mathlib.Core.List.{List}

@@ -1,11 +1,11 @@
 -- The tables tell each slip apart from the right definition, and the source documents' grammars come out as printed there.
 -- Assumes nothing.
 use mathlib.Core.Path.{refl}
-use Rattle.examples.specs.Apart.{ToldApart, allSequences, allVisits, setsUpTo}
+use Rattle.examples.specs.Apart.{ToldApart, allSequences, allVisits, setsUpTo, circularBy}
 use Rattle.examples.proofs.Opened.{opened}
 
 pub apart : ToldApart
-unfolding opened allSequences allVisits setsUpTo
+unfolding opened allSequences allVisits setsUpTo circularBy
 apart =
     record {
         chainOfTwoPlanned = refl;
@@ -30,5 +30,9 @@ apart =
         nothingUpOrder = refl;
         nothingUpVisits = refl;
         figureFour = refl;
-        notOrdered = refl
+        notOrdered = refl;
+        successorRefused = refl;
+        successorBy000 = refl;
+        heirsPlanned = refl;
+        heirsBy000 = refl
     }

@@ -22,7 +22,8 @@ use Rattle.trees.specs.Checking.{sizeFits, knownWord, slotFits, slotsFit, nodeF
 use Rattle.trees.specs.Equations.{argumentValue, functionValue}
 use Rattle.trees.specs.Tree.{usedSlots, symbolAtNode, nodeAt, cell}
 use Rattle.running.specs.Automaton.{started, functionFor, computed, act, actionOf, stepOn, step, after}
-use Rattle.running.specs.Run.{idle, lastAnswer, runOn, ran, totalUpTo, total, runAnswer, valuesAfter}
+use Rattle.running.specs.Totals.{totalUpTo, total}
+use Rattle.running.specs.Run.{idle, lastAnswer, runOn, ran, runAnswer, valuesAfter}
 use Rattle.planning.specs.Sequences.{sequenceLength, actionAt}
 use Rattle.text.specs.Lines.{digits, decimal, spaced, line}
 use Rattle.text.specs.Listing.{refusalLine, firstLine, symbolLine, ruleLine, planText, outcomeText, tableText, wordsOf, bytesText, listing}

@@ -2,6 +2,7 @@
 -- Assumes nothing.
 use Prim.Native.Nat.{ℕ}
 use mathlib.Core.Path.{_≡_}
+use mathlib.Core.Bool.{Bool, true, false}
 use mathlib.Core.List.{List, [], _∷_}
 use lib.ListN.{take}
 use Rattle.basics.specs.Lists.{tabulate}
@@ -10,10 +11,12 @@ use Rattle.grammar.specs.Table.{symbols, rules}
 use Rattle.relations.specs.Computed.{idsOf}
 use Rattle.sets.specs.Computed.{setsOf}
 use Rattle.sets.specs.Visits.{visits}
-use Rattle.planning.specs.Answer.{accepted, unordered, sequencesOf}
+use Rattle.ordered.specs.Computed.{circular}
+use Rattle.planning.specs.Answer.{accepted, unordered, edpPaths, sequencesOf}
 use Rattle.examples.specs.Claims.{planned}
 use Rattle.examples.specs.NearMisses.{
-    chainOfTwo, chainOfThree, orderElsewhere, handedDown, fromTheEnd, writtenLater, nothingUp, expressions, computationSequences
+    chainOfTwo, chainOfThree, orderElsewhere, handedDown, fromTheEnd, writtenLater, nothingUp, expressions, computationSequences,
+    successorInFirst, successorInFirstBy000, heirsTogether, heirsTogetherBy000
 }
 
 -- the sequences of all rules, the visits of all symbols, the set numbers of the first n symbols
@@ -25,6 +28,10 @@ allVisits g = let s = setsOf g (idsOf g) in tabulate (symbols g) (λ x. visits s
 
 unfoldable pub setsUpTo : List ℕ → ℕ → List ℕ
 setsUpTo g n = take n (setsOf g (idsOf g))
+
+-- whether some EDP has a cycle, where the set words are these
+unfoldable pub circularBy : List ℕ → List ℕ → Bool
+circularBy g s = circular g (edpPaths g (idsOf g) s)
 
 pub record ToldApart : Type 0 where
   -- one round of induced arcs refuses it; an empty set 1 keeps its visit
@@ -60,3 +67,8 @@ pub record ToldApart : Type 0 where
       ≡ 0 ∷ 0 ∷ 0 ∷ 0 ∷ 0 ∷ 0 ∷ 0 ∷ 0 ∷ 4 ∷ 3 ∷ 2 ∷ 1 ∷ 1 ∷ 0 ∷ 0 ∷ 0 ∷ 4 ∷ 3 ∷ 2 ∷ 1 ∷ 1 ∷ 0 ∷ 0 ∷ 0 ∷ 4 ∷ 3 ∷ 2 ∷ 0 ∷ 0 ∷ 0 ∷ 0 ∷ 0 ∷ 2 ∷ 1 ∷ 0 ∷ 0 ∷ 0 ∷ 0 ∷ 0 ∷ 0 ∷ []
   -- 002's example grammar is evaluable by other means, and not ordered
   pub notOrdered : planned computationSequences ≡ unordered (CircularEdp 0 8)
+  -- 000's own definition 4 calls the first of these ordered and the second not; 01's sets hold, and say the opposite
+  pub successorRefused : planned successorInFirst ≡ unordered (CircularEdp 0 8)
+  pub successorBy000 : circularBy successorInFirst successorInFirstBy000 ≡ false
+  pub heirsPlanned : planned heirsTogether ≡ accepted
+  pub heirsBy000 : circularBy heirsTogether heirsTogetherBy000 ≡ true

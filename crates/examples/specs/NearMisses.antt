@@ -43,6 +43,27 @@ abbrev pub nothingUp : List ℕ
 nothingUp =
     2 ∷ 2 ∷ 0 ∷ 0 ∷ 0 ∷ 0 ∷ 0 ∷ 0 ∷ 0 ∷ 0 ∷ 1 ∷ 1 ∷ 0 ∷ 1 ∷ 0 ∷ 0 ∷ []
 
+-- Z to A A, each inherited attribute 2 copied from the other's attribute 0; A to nothing, attribute 1 a copy of 0. 01 puts both
+-- synthesized attributes into set 1; 000's definition 4 puts 0, which has a successor, into set 3, before the inherited one.
+abbrev pub successorInFirst : List ℕ
+successorInFirst =
+    2 ∷ 2 ∷ 0 ∷ 0 ∷ 0 ∷ 0 ∷ 0 ∷ 3 ∷ 4 ∷ 0 ∷ 2 ∷ 1 ∷ 1 ∷ 2 ∷ 10 ∷ 1 ∷ 16 ∷ 18 ∷ 1 ∷ 8 ∷ 1 ∷ 0 ∷ 2 ∷ 0
+    ∷ 0 ∷ 5 ∷ 1 ∷ 1 ∷ 0 ∷ []
+
+-- its set words by 000's definition 4
+abbrev pub successorInFirstBy000 : List ℕ
+successorInFirstBy000 = 0 ∷ 0 ∷ 0 ∷ 0 ∷ 0 ∷ 0 ∷ 0 ∷ 0 ∷ 3 ∷ 1 ∷ 2 ∷ []
+
+-- Z to A A, each inherited attribute 3 copied from the other's inherited attribute 2; A to nothing, 0 a copy of 3 and 1 of 0. 01 puts both
+-- inherited attributes into set 2; 000's definition 4 puts 3, whose successor 0 is in set 3, into set 4.
+abbrev pub heirsTogether : List ℕ
+heirsTogether =
+    2 ∷ 2 ∷ 0 ∷ 0 ∷ 0 ∷ 0 ∷ 0 ∷ 4 ∷ 12 ∷ 0 ∷ 2 ∷ 1 ∷ 1 ∷ 4 ∷ 10 ∷ 0 ∷ 5 ∷ 18 ∷ 0 ∷ 5 ∷ 11 ∷ 1 ∷ 18 ∷ 19
+    ∷ 1 ∷ 10 ∷ 1 ∷ 0 ∷ 2 ∷ 0 ∷ 1 ∷ 3 ∷ 1 ∷ 1 ∷ 0 ∷ []
+
+abbrev pub heirsTogetherBy000 : List ℕ
+heirsTogetherBy000 = 0 ∷ 0 ∷ 0 ∷ 0 ∷ 0 ∷ 0 ∷ 0 ∷ 0 ∷ 3 ∷ 1 ∷ 2 ∷ 4 ∷ []
+
 -- 000, rules p1 to p9. Symbols: program, primary, expression, assignment, declaration, identifier, intconstant, realconstant, and one
 -- terminal for all marks. Attributes of primary, expression and assignment: access, primode, postmode, evaluable, value, as far as
 -- they have them; of declaration: access, description.

@@ -25,7 +25,8 @@ use Rattle.running.specs.declared.Ran as R
 use Rattle.planning.specs.Sequences.{actionAt}
 use Rattle.running.specs.Sound.{Sound}
 use Rattle.running.specs.Automaton.{Machine, started, functionFor, act, step, after}
-use Rattle.running.specs.Run.{ran, total}
+use Rattle.running.specs.Totals.{total}
+use Rattle.running.specs.Run.{ran}
 use Rattle.running.specs.Balance.{Given}
 use Rattle.running.specs.Computing.{machineAt}
 use Rattle.running.proofs.Steps.{action-of, step-on}

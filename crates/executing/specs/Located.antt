@@ -1,5 +1,5 @@
 -- A list of 4,096 words in which word 64 r + o says where the function of occurrence o of rule r starts.
--- Assumes nothing.
+-- For proofs of the code: no demand rests on it. Assumes nothing.
 use Prim.Native.Nat.{ℕ, _+_, _*_, _<_}
 use mathlib.Core.Path.{_≡_}
 use mathlib.Core.List.{List}

@@ -1,5 +1,5 @@
 -- The machine of a run in arrays: the stack from its bottom up, of which the first `depth` words count, and a place for each node.
--- Assumes nothing.
+-- For proofs of the code: no demand rests on it. Assumes nothing.
 use Prim.Native.Nat.{ℕ, zero, suc, _+_, _*_, _-_, _≤_, _<_}
 use mathlib.Core.Path.{_≡_}
 use mathlib.Core.List.{List, [], _∷_}

@@ -1,5 +1,5 @@
 -- Document 01, "EDP of a rule": at each nonterminal position an arc from a to b wherever a's set number is higher. The arcs of each
--- symbol as a set, in which 8a + b is the arc from a to b. Assumes nothing.
+-- symbol as a set, in which 8a + b is the arc from a to b. Computed: no demand rests on it. Assumes nothing.
 use Prim.Native.Nat.{ℕ, _+_, _*_, _/_, _%_}
 use mathlib.Core.Bool.{Bool}
 use mathlib.Core.List.{List}

@@ -1,5 +1,5 @@
 -- Document 01, "Refusal numbers" 1 to 7: words are read left to right and the first fault answers; at one word the lower number.
--- Each test stands where the reader meets its word. Assumes nothing.
+-- Each test stands where the reader meets its word. Computed: no demand rests on it. Assumes nothing.
 use Prim.Native.Nat.{ℕ, zero, suc, _+_, _^_}
 use mathlib.Core.Bool.{Bool, not}
 use mathlib.Core.List.{List}

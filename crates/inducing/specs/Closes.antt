@@ -1,5 +1,5 @@
 -- Arcs added to the rows of one rule: what the rows say afterwards is the paths of what they said before and of the arcs.
--- Assumes nothing.
+-- For proofs of the code: no demand rests on it. Assumes nothing.
 use Prim.Native.Nat.{ℕ, _+_, _*_, _/_, _%_, _≤_, _<_}
 use mathlib.Core.Path.{_≡_}
 use mathlib.Core.Logic.{_⊎_}

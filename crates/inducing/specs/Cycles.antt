@@ -1,5 +1,5 @@
 -- Document 01, refusals 9 and 10: "the lowest-numbered rule, and in it the lowest occurrence, that lies on a cycle", read off the rows.
--- Assumes nothing.
+-- Computed: no demand rests on it. Assumes nothing.
 use Prim.Native.Nat.{ℕ, _*_}
 use mathlib.Core.Bool.{Bool, cond}
 use mathlib.Core.List.{List}

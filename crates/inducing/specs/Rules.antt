@@ -1,5 +1,5 @@
 -- The rows of all rules of a grammar while they grow: between a relation that they have and one that they stay within.
--- Assumes nothing.
+-- For proofs of the code: no demand rests on it. Assumes nothing.
 use Prim.Native.Nat.{ℕ, _+_, _*_, _/_, _%_, _≤_, _<_}
 use mathlib.Core.Path.{_≡_}
 use mathlib.Core.List.{List}

@@ -1,5 +1,5 @@
 -- EDP and its paths as definitions that compute, and the search for the lowest cycle.
--- Assumes nothing.
+-- Computed: no demand rests on it. Assumes nothing.
 use Prim.Native.Nat.{ℕ}
 use mathlib.Core.Bool.{Bool}
 use mathlib.Core.List.{List}

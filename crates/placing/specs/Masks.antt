@@ -1,5 +1,5 @@
 -- The sets of a symbol with its attributes as sets of numbers below 8: which of them set k takes.
--- Assumes nothing.
+-- For proofs of the code: no demand rests on it. Assumes nothing.
 use Prim.Native.Nat.{ℕ, zero, suc, _*_, _%_}
 use mathlib.Core.Bool.{Bool, cond}
 use mathlib.Core.List.{List}

@@ -63,7 +63,7 @@ accepted-room g rowsLength planLength e = go (readTable g then room g rowsLength
 -- whatever the table and the lengths
 module _ (g rows plan : List ℕ) where
   -- planning that is not refused before it writes has room
-  past-room : (o : Outcome) → outcome g (length rows) (length plan) ≡ o → ((n : Refusal) → ¬ (o ≡ untouched n))
+  pub past-room : (o : Outcome) → outcome g (length rows) (length plan) ≡ o → ((n : Refusal) → ¬ (o ≡ untouched n))
       → (rowWords (rules g) ≤ length rows) × (planWords (rules g) ≤ length plan)
   unfolding outcome afterReading room
   past-room o e h = go (readTable g then room g (length rows) (length plan)) refl

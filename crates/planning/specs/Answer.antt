@@ -1,5 +1,5 @@
 -- Document 01, refusals 8 to 11, and what planning answers and leaves in the lent buffers for every input.
--- Assumes nothing.
+-- Computed: no demand rests on it. Assumes nothing.
 use Prim.Native.Nat.{ℕ, _+_, _*_}
 use mathlib.Core.Bool.{Bool, true, false, cond, not}
 use mathlib.Core.List.{List}

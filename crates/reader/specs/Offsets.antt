@@ -1,5 +1,5 @@
 -- What reading hands on besides its verdict: where each rule starts.
--- Assumes nothing.
+-- Computed: no demand rests on it. Assumes nothing.
 use Prim.Native.Nat.{ℕ}
 use mathlib.Core.List.{List}
 use lib.ListN.{replicate}

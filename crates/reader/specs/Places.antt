@@ -1,5 +1,6 @@
 -- Document 01, "The grammar table", by place: the rule that starts at word p and the function that starts at word f.
--- A reader knows the places and keeps occurrences as sets; proofs/Same.antt shows that this says what grammar's Reading says. Assumes nothing.
+-- A reader knows the places and keeps occurrences as sets; proofs/Same.antt shows that this says what grammar's Reading says.
+-- Computed: no demand rests on it. Assumes nothing.
 use Prim.Native.Nat.{ℕ, zero, suc, _+_, _≤_, _<_}
 use mathlib.Core.Path.{_≡_}
 use mathlib.Core.Bool.{Bool, cond, not}

@@ -1,5 +1,6 @@
 -- The relations as definitions that compute. The state is IDS: for each symbol a number whose bit 8a + b says that there is an arc
--- from attribute a to attribute b. A round adds what the rules' paths induce, until a round adds nothing. Assumes nothing.
+-- from attribute a to attribute b. A round adds what the rules' paths induce, until a round adds nothing.
+-- Computed: no demand rests on it. Assumes nothing.
 use Prim.Native.Nat.{ℕ, zero, suc, _+_, _*_, _/_, _%_}
 use mathlib.Core.Bool.{Bool, true, false}
 use mathlib.Core.List.{List}

@@ -1,5 +1,5 @@
 -- Whether a path leads from one number to another, computed: a path whose inner numbers are among some is one that passes by the
--- first of them or not. Assumes nothing.
+-- first of them or not. Computed: no demand rests on it. Assumes nothing.
 use Prim.Native.Nat.{ℕ}
 use mathlib.Core.Bool.{Bool}
 use mathlib.Core.List.{List, [], _∷_}

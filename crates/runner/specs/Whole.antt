@@ -1,5 +1,5 @@
 -- Document 01: what a whole run answers and leaves, for every table, tree, length of the buffers and budget.
--- Assumes nothing.
+-- Computed: no demand rests on it. Assumes nothing.
 use Prim.Native.Nat.{ℕ, _+_, _*_, _≤_}
 use mathlib.Core.Path.{_≡_}
 use mathlib.Core.List.{List}

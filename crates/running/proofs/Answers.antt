@@ -10,7 +10,8 @@ use lib.IntN.{ℤ}
 use Rattle.basics.proofs.TestLaws.{below-or-not}
 use Rattle.running.specs.declared.Ran as R
 use Rattle.running.specs.Automaton.{Machine, started, step, after}
-use Rattle.running.specs.Run.{Ended, idle, lastAnswer, runOn, ran, total}
+use Rattle.running.specs.Totals.{total}
+use Rattle.running.specs.Run.{Ended, idle, lastAnswer, runOn, ran}
 use Rattle.running.specs.Balance.{Given}
 use Rattle.running.proofs.StepsCounted.{busy, empty-after}
 

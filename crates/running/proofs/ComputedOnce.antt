@@ -16,7 +16,7 @@ use Rattle.trees.specs.Tree.{ruleOf, appliesRule, nodeAt}
 use Rattle.trees.specs.Definers.{DefinedAt, Definer, AttributeOf}
 use Rattle.trees.proofs.Cells.{cell-is, one-definer, definer, defined-occurs, defined-applies, occurrence-attribute, attribute-eight}
 use Rattle.planning.specs.Sequences.{sequenceLength, actionAt}
-use Rattle.running.specs.Run.{total}
+use Rattle.running.specs.Totals.{total}
 use Rattle.running.specs.Balance.{Given, Balanced}
 use Rattle.running.specs.Computing.{machineAt, OnTop, Computing, AboutTo}
 use Rattle.running.proofs.SequenceCounts.{same-action, action-there}

@@ -26,7 +26,8 @@ use Rattle.planning.specs.Sequences.{sequenceLength, actionAt}
 use Rattle.running.specs.Sound.{Sound}
 use Rattle.running.specs.Automaton.{Machine, started, after}
 use Rattle.planning.specs.Answer.{accepted as planned}
-use Rattle.running.specs.Run.{Ended, ran, total, runAnswer, valuesAfter}
+use Rattle.running.specs.Totals.{total}
+use Rattle.running.specs.Run.{Ended, ran, runAnswer, valuesAfter}
 use Rattle.running.specs.Depth.{longestDown}
 use Rattle.running.specs.Balance.{Given, times, Balanced}
 use Rattle.running.specs.Computing.{machineAt, Computing, AboutTo, ComputedBefore, ExactlyOnce}

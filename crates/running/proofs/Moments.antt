@@ -14,7 +14,7 @@ use Rattle.basics.proofs.TestLaws.{same-or-not, below-or-not, below-suc}
 use Rattle.trees.specs.Tree.{nodes, ruleOf, appliesRule}
 use Rattle.planning.specs.Sequences.{sequenceLength}
 use Rattle.running.specs.Automaton.{Machine, started, actionOf, stepOn, step, after}
-use Rattle.running.specs.Run.{total}
+use Rattle.running.specs.Totals.{total}
 use Rattle.running.specs.Balance.{Given, Balanced}
 use Rattle.running.specs.Computing.{machineAt, OnTop}
 use Rattle.running.proofs.Steps.{all-zero, step-on, act-places, top-inside}

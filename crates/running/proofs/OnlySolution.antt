@@ -17,7 +17,7 @@ use Rattle.trees.specs.Definers.{DefinedAt, AttributeOf}
 use Rattle.trees.proofs.Accepted.{terminal-symbol}
 use Rattle.trees.proofs.Cells.{cell-is, symbol-known, occurrence-attribute}
 use Rattle.trees.proofs.EquationLaws.{same-function}
-use Rattle.running.specs.Run.{total}
+use Rattle.running.specs.Totals.{total}
 use Rattle.running.specs.Balance.{Given}
 use Rattle.running.specs.Computing.{machineAt, Computing, AboutTo}
 use Rattle.running.proofs.ComputedOnce.{computing-defined, attribute-computed}

@@ -15,7 +15,7 @@ use Rattle.trees.specs.Tree.{nodes, appliesRule, symbolAtNode}
 use Rattle.trees.specs.Equations.{valueAt}
 use Rattle.trees.specs.Definers.{AttributeOf}
 use Rattle.trees.proofs.Cells.{attribute-eight}
-use Rattle.running.specs.Run.{total}
+use Rattle.running.specs.Totals.{total}
 use Rattle.running.specs.Balance.{Given}
 use Rattle.running.specs.Computing.{machineAt}
 use Rattle.running.proofs.ValuesWritten.{values-length}

@@ -16,7 +16,7 @@ use Rattle.trees.specs.Definers.{DefinedAt}
 use Rattle.trees.proofs.Cells.{cell-is, attribute-eight, applies-nonterminal}
 use Rattle.trees.proofs.EquationLaws.{same-function}
 use Rattle.running.specs.Automaton.{started, after}
-use Rattle.running.specs.Run.{total}
+use Rattle.running.specs.Totals.{total}
 use Rattle.running.specs.Balance.{Given}
 use Rattle.running.specs.Computing.{machineAt, Computing, AboutTo}
 use Rattle.running.proofs.ComputedOnce.{computed-once, defined-computed, no-terminal}

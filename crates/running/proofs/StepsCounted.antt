@@ -15,7 +15,7 @@ use Rattle.basics.proofs.TestLaws.{below-suc, true-T}
 use Rattle.trees.specs.Tree.{nodes, ruleOf, appliesRule}
 use Rattle.planning.specs.Sequences.{sequenceLength}
 use Rattle.running.specs.Automaton.{Machine, started, actionOf, step, after}
-use Rattle.running.specs.Run.{totalUpTo, total}
+use Rattle.running.specs.Totals.{totalUpTo, total}
 use Rattle.running.specs.Balance.{Given, Balanced}
 use Rattle.running.proofs.Steps.{all-zero, step-on, act-places, top-inside, top-applies}
 use Rattle.running.proofs.Balance.{top-left, after-balanced}

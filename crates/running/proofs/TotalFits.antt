@@ -10,7 +10,7 @@ use Rattle.basics.proofs.TestLaws.{true-T}
 use Rattle.grammar.specs.Limits.{ruleWords}
 use Rattle.trees.specs.Tree.{nodes, ruleOf, appliesRule}
 use Rattle.planning.specs.Sequences.{sequenceLength}
-use Rattle.running.specs.Run.{totalUpTo, total}
+use Rattle.running.specs.Totals.{totalUpTo, total}
 use Rattle.running.specs.Balance.{Given}
 use Rattle.running.proofs.SequenceCounts.{rule-sound}
 

@@ -13,7 +13,7 @@ use Rattle.planning.specs.Sequences.{sequenceLength}
 use Rattle.planning.specs.Left.{SequenceStands}
 use Rattle.trees.specs.Tree.{nodes, ruleOf, appliesRule}
 use Rattle.trees.specs.Formed.{TreeFormed}
-use Rattle.running.specs.Run.{totalUpTo, totalOf, total}
+use Rattle.running.specs.Totals.{totalUpTo, totalOf, total}
 
 total-along : (f h : ℕ → ℕ) (t : List ℕ) (n : ℕ) → ((k : ℕ) → k < n → T (appliesRule t k) → f (ruleOf t k) ≡ h (ruleOf t k))
     → totalUpTo f t n ≡ totalUpTo h t n

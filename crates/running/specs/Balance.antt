@@ -1,5 +1,5 @@
 -- What holds of stack and places at each step of a run: a nonterminal node has left, or is on the stack, as often as its parent has
--- visited it; the root once. Assumes nothing.
+-- visited it; the root once. For proofs of the code: no demand rests on it. Assumes nothing.
 use Prim.Native.Nat.{ℕ, _+_, _≤_, _<_}
 use mathlib.Core.Path.{_≡_}
 use mathlib.Core.Bool.{cond}

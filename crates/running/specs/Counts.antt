@@ -1,5 +1,5 @@
 -- How many leaves, and how many visits of a child, stand in the first actions of a rule's sequence.
--- Assumes nothing.
+-- For proofs of the code: no demand rests on it. Assumes nothing.
 use Prim.Native.Nat.{ℕ}
 use mathlib.Core.Bool.{cond}
 use mathlib.Core.List.{List}

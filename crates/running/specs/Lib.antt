@@ -1,5 +1,6 @@
 pub mod Sound
 pub mod Automaton
+pub mod Totals
 pub mod Run
 pub mod Counts
 pub mod Depth

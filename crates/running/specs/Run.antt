@@ -1,5 +1,5 @@
 -- Document 01: a run with a budget, and what it answers and leaves in the lent buffers for every input.
--- Assumes nothing.
+-- Computed: no demand rests on it. Assumes nothing.
 use Prim.Native.Nat.{ℕ, zero, suc, _+_}
 use mathlib.Core.Bool.{Bool, true, false, cond}
 use mathlib.Core.List.{List, [], _∷_}
@@ -40,19 +40,6 @@ runOn g p t (suc budget) count m =
 -- the run of plan p over tree t: "done with its count of actions, or stopped with the budget"
 unfoldable pub ran : List ℕ → List ℕ → List ℕ → List ℤ → ℕ → Ended
 ran g p t values budget = runOn g p t budget 0 (started t values)
-
--- The total: what the lengths of the nodes' rules' sequences add up to, where lengthOf r is that of rule r
-unfoldable pub totalUpTo : (ℕ → ℕ) → List ℕ → ℕ → ℕ
-totalUpTo lengthOf t zero = 0
-totalUpTo lengthOf t (suc n) = totalUpTo lengthOf t n + cond (appliesRule t n) (lengthOf (ruleOf t n)) 0
-
--- of the sequences themselves
-unfoldable pub totalOf : (ℕ → List ℕ) → List ℕ → ℕ
-totalOf sequence t = totalUpTo (λ r. length (sequence r)) t (nodes t)
-
--- and of those in the words of a plan
-unfoldable pub total : List ℕ → List ℕ → ℕ
-total p t = totalUpTo (λ r. sequenceLength p r) t (nodes t)
 
 -- What a run answers and leaves in the values, where p is the plan as planning left it, planning came so far and the tree's verdict is this.
 unfoldable pub runAnswer : List ℕ → List ℕ → List ℕ → Outcome → Verdict → List ℤ → ℕ → R.Ran

@@ -1,5 +1,5 @@
 -- Document 01: which action follows which.
--- Assumes nothing.
+-- Computed: no demand rests on it. Assumes nothing.
 use Prim.Native.Nat.{ℕ, suc}
 use mathlib.Core.Bool.{Bool, true, false, not}
 use mathlib.Core.List.{List}

@@ -1,5 +1,5 @@
 -- Document 01: "The next action is always the lowest-numbered one whose predecessors are done."
--- The construction is over any relation of following. Assumes nothing.
+-- The construction is over any relation of following. Computed: no demand rests on it. Assumes nothing.
 use Prim.Native.Nat.{ℕ, zero, suc}
 use mathlib.Core.Bool.{Bool, true, false, cond, not}
 use mathlib.Core.List.{List, [], _∷_}

@@ -1,5 +1,5 @@
 -- What the planner's visit-sequence of one rule is made from, and where it is written: "From 256 + 112r: length, actions, zeros."
--- Assumes nothing.
+-- For proofs of the code: no demand rests on it. Assumes nothing.
 use Prim.Native.Nat.{ℕ, _+_, _*_, _≤_, _<_}
 use mathlib.Core.Path.{_≡_}
 use mathlib.Core.List.{List, _++_}

@@ -1,6 +1,6 @@
 -- What the planner keeps as sets of bits: the attributes of a symbol by set and by visit, the visits and occurrences of the rule at word p,
 -- and which of them are ready or blocked.
--- Assumes nothing.
+-- For proofs of the code: no demand rests on it. Assumes nothing.
 use Prim.Native.Nat.{ℕ, _+_, _*_, _-_, _/_, _%_, _≤_, _<_}
 use mathlib.Core.Path.{_≡_}
 use mathlib.Core.Bool.{Bool, cond}

@@ -1,5 +1,5 @@
 -- What the planner keeps of one rule while it orders the actions: three sets of actions that are left, and the occurrences that wait.
--- Assumes nothing.
+-- For proofs of the code: no demand rests on it. Assumes nothing.
 use Prim.Native.Nat.{ℕ, suc, _-_, _<_}
 use mathlib.Core.Path.{_≡_}
 use mathlib.Core.Bool.{Bool, cond}

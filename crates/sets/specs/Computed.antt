@@ -1,5 +1,5 @@
 -- The sets as definitions that compute: set after set from 1 to 9, each taking the unplaced attributes of its class all of whose
--- unplaced IDS successors are of that class too. Assumes nothing.
+-- unplaced IDS successors are of that class too. Computed: no demand rests on it. Assumes nothing.
 use Prim.Native.Nat.{ℕ, zero, suc}
 use mathlib.Core.Bool.{Bool, cond}
 use mathlib.Core.List.{List}

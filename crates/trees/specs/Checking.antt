@@ -1,5 +1,5 @@
 -- Document 01, refusals 12 to 18, in their order: 13 and 14 together in one walk up the nodes, the others each in a walk of its own.
--- Assumes nothing.
+-- Computed: no demand rests on it. Assumes nothing.
 use Prim.Native.Nat.{ℕ, zero, suc, _+_, _*_, _-_, _/_, _%_}
 use mathlib.Core.Bool.{Bool, true, false, cond, not}
 use mathlib.Core.List.{List}
