@@ -35,7 +35,7 @@ use Rattle.planning.proofs.Ordered.{IsOrdered, accepted-exactly}
 use Rattle.closing.specs.Rows.{leads}
 use Rattle.inducing.proofs.RowLaws.{over-leads}
 use Rattle.planner.specs.Answered as planner
-use Rattle.planner.proofs.Unique as planned
+use Rattle.planner.proofs.Unique as one-plan
 use Rattle.trees.specs.Tree.{ruleOf, appliesRule, nodeAt, cell}
 use Rattle.trees.specs.Checking.{checkTree}
 use Rattle.trees.specs.Equations.{valueAt, Solution, SameTerminals}
@@ -49,7 +49,7 @@ use Rattle.running.proofs.PlannedSound.{planned-sound}
 use Rattle.running.proofs.EverySoundPlan as run
 use Rattle.runner.specs.Whole.{came, answer, values}
 use Rattle.runner.specs.Answered as runner
-use Rattle.runner.proofs.Unique as whole
+use Rattle.runner.proofs.Unique as one-run
 use Rattle.cases.specs.All.{PlanRefuses, Refuses}
 use Rattle.cases.proofs.Refusals.{planning-refused, run-refused, never-eleven}
 use Rattle.cases.proofs.Leaves.{early-leaves, nine-leaves, ten-leaves, tree-late, values-stay}
@@ -83,7 +83,7 @@ pub demand-1 : (g rows plan t : List ℕ) (v : List ℤ) (budget : ℕ) → Dema
 unfolding came
 demand-1 g rows plan t v budget =
     record {
-        onePlan = planned.one-answer g rows plan; oneRun = whole.one-answer g rows plan t v budget;
+        onePlan = one-plan.one-answer g rows plan; oneRun = one-run.one-answer g rows plan t v budget;
         planRefuses = planning-refused g (length rows) (length plan); runRefuses = run-refused g rows plan t v budget;
         nothingChanged = early-leaves g rows plan; idpLeft = nine-leaves g rows plan; edpLeft = ten-leaves g rows plan;
         written = tree-late g rows plan t v budget; valuesStay = values-stay g rows plan t v budget
