@@ -53,6 +53,12 @@ size-shows t u e f =
     let t₁ = and-right _ _ (true-T (sizeFits t) (sym e ∙ f)) in
     (leb→le 1 (nodes t) (and-left _ _ t₁), leb→le (nodes t) mostNodes (and-right _ _ t₁))
 
+some-node : (t : List ℕ) (u : Bool) → u ≡ sizeFits t → u ≡ true → 1 ≤ nodes t
+some-node t u e f = size-shows t u e f .0
+
+pub few-nodes : (t : List ℕ) (u : Bool) → u ≡ sizeFits t → u ≡ true → nodes t ≤ 1024
+few-nodes t u e f = size-shows t u e f .1
+
 -- a known node uses at most seven slots
 used-seven : (g offsets t : List ℕ) (n : ℕ) → Ready g offsets → T (knownWord g t n) → usedSlots g t n ≤ 7
 unfolding usedSlots
@@ -83,6 +89,11 @@ known-all g offsets t k v w few e f h =
     slot n i l b = all-at 7 (λ i. slotFits g t n (suc i)) (unless-passes (slotsFit g t n) (BadChild n) (then-second _ _ (at n l))) i b
     seven : (n : ℕ) → n < nodes t → usedSlots g t n ≤ 7
     seven n l = used-seven g offsets t n w (unless-passes (knownWord g t n) (NoSuchRule n) (then-first _ _ (at n l)))
+
+pub root-known : (g offsets t : List ℕ) (u : Bool) (v : Verdict) → Ready g offsets → u ≡ sizeFits t → u ≡ true → v ≡ each (nodes t) (λ n. nodeFault g t n)
+    → v ≡ Good → T (knownWord g t 0)
+root-known g offsets t u v w e f h q =
+    known-all g offsets t (nodes t) v w (few-nodes t u e f) refl h q .known 0 (some-node t u e f)
 
 -- the chain from each test on
 abbrev from-18 : List ℕ → ℕ → Verdict

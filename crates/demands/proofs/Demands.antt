@@ -24,7 +24,7 @@ use Rattle.planning.specs.Answer.{Outcome, accepted, outcome, room, answerOf, r
 use Rattle.planning.proofs.Ordered.{accepted-exactly, ordered-free}
 use Rattle.planning.proofs.Left.{accepted-written}
 use Rattle.planning.proofs.Stays.{accepted-room, rows-stay, plan-stay}
-use Rattle.planner.proofs.Unique.{Answered}
+use Rattle.planner.specs.Answered.{Answered}
 use Rattle.planner.proofs.RoomLaws.{both-long}
 use Rattle.trees.specs.Checking.{checkTree}
 use Rattle.trees.proofs.Accepted.{accepted-tree}
@@ -37,7 +37,7 @@ use Rattle.running.proofs.PlannedSound.{planned-sound}
 use Rattle.running.proofs.Totals.{total-stands}
 use Rattle.running.proofs.EverySoundPlan as run
 use Rattle.runner.specs.Whole as whole
-use Rattle.runner.proofs.Unique as runner
+use Rattle.runner.specs.Answered as runner
 use Rattle.cases.specs.First.{readyWalk, walk}
 use Rattle.cases.specs.Planning.{PlanCase}
 use Rattle.cases.specs.Tree.{TreeCase}

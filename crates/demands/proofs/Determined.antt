@@ -34,12 +34,12 @@ use Rattle.planning.specs.Sequences.{sequenceLength, actionAt}
 use Rattle.planning.specs.Answer.{Outcome, untouched, circularIdp, unordered, accepted, outcome, answerOf, rowsAfter, planAfter}
 use Rattle.planning.specs.Left.{RowsHold, EDP⁺, SequenceStands, Written, Beyond}
 use Rattle.planning.proofs.Stays.{past-room, rows-stay, plan-stay}
-use Rattle.planner.proofs.Unique.{Answered}
+use Rattle.planner.specs.Answered.{Answered}
 use Rattle.running.specs.declared.Ran as R
 use Rattle.running.specs.Computing.{machineAt}
 use Rattle.running.specs.Totals.{totalOf}
 use Rattle.runner.specs.Whole as whole
-use Rattle.runner.proofs.Unique as runner
+use Rattle.runner.specs.Answered as runner
 use Rattle.cases.specs.First.{roomWalk, idpWalk, readyWalk, walk}
 use Rattle.cases.specs.All.{RunCase, PlanRefuses, Refuses}
 use Rattle.cases.proofs.PlanTests.{refusedWith, plan-walk}

@@ -8,7 +8,7 @@ ghost use Rattle.trees.specs.Equations.{valueAt};
 ghost use Rattle.evaluating.specs.Places as places;
 
 // The node at position i of the rule at node n: itself at 0, else its child.
-pub fn node_at(tree: &[u16], n: usize, i: usize) -> usize
+fn node_at(tree: &[u16], n: usize, i: usize) -> usize
     requires { ⌜ (n < 65536) × (i < 65536) ⌝ }
     ensures { λ r. ⌜ (r ≡ trees.nodeAt (now (tree .entry)) n i) × (r < 65536) ⌝ }
 {
@@ -27,7 +27,7 @@ pub fn cell(tree: &[u16], n: usize, o: usize) -> usize
 }
 
 // The value at a place, 0 past the end.
-pub fn value(values: &[i32], c: usize) -> i32
+fn value(values: &[i32], c: usize) -> i32
     ensures { λ r. ⌜ r ≡ valueAt (now (values .entry)) c ⌝ }
 {
     if c < values.len() {

@@ -1,14 +1,11 @@
-// Planning and running for C callers: a slice is a pointer and its count of elements, an answer is a status and four numbers (specs/Told).
+// Planning and running for C callers: a slice is a pointer and its count of elements, an answer is a status and four numbers (specs/Told, specs/Answered).
 use planning::Planned;
 use refusals::Refusal;
 use running::Ran;
 
 ghost use mathlib.Core.Path.{_≡_};
-ghost use lib.ListN.{length};
 ghost use Rattle.refusals.specs.Numbers.{numberOf, placeOf, secondOf};
-ghost use Rattle.planning.specs.Answer as answer;
-ghost use Rattle.runner.specs.Whole as whole;
-ghost use Rattle.exports.specs.Told as told;
+ghost use Rattle.exports.specs.Answered as answered;
 
 // Accepted or done; stopped by the budget; refused.
 const DONE: u32 = 0;
@@ -31,13 +28,7 @@ fn refuse(refusal: Refusal, number: &mut u64, place: &mut u64, second: &mut u64)
 // Plans a grammar, as `planner::plan`.
 #[no_mangle]
 pub extern "C" fn skarnuth_plan(words: &[u16], rows: &mut [u64], plan: &mut [u16], count: &mut u64, number: &mut u64, place: &mut u64, second: &mut u64) -> u32
-    ensures { λ r. ⌜ r ≡ told.planning (now (words .entry)) (now (rows .entry)) (now (plan .entry)) .status ⌝ }
-    ensures { λ _. ⌜ now (count .exit) ≡ told.planning (now (words .entry)) (now (rows .entry)) (now (plan .entry)) .count ⌝ }
-    ensures { λ _. ⌜ now (number .exit) ≡ told.planning (now (words .entry)) (now (rows .entry)) (now (plan .entry)) .number ⌝ }
-    ensures { λ _. ⌜ now (place .exit) ≡ told.planning (now (words .entry)) (now (rows .entry)) (now (plan .entry)) .place ⌝ }
-    ensures { λ _. ⌜ now (second .exit) ≡ told.planning (now (words .entry)) (now (rows .entry)) (now (plan .entry)) .second ⌝ }
-    ensures { λ _. ⌜ now (rows .exit) ≡ answer.rowsAfter (now (words .entry)) (answer.outcome (now (words .entry)) (length (now (rows .entry))) (length (now (plan .entry)))) (now (rows .entry)) ⌝ }
-    ensures { λ _. ⌜ now (plan .exit) ≡ answer.planAfter (now (words .entry)) (answer.outcome (now (words .entry)) (length (now (rows .entry))) (length (now (plan .entry)))) (now (plan .entry)) ⌝ }
+    ensures { λ r. ⌜ answered.PlanAnswered (now (words .entry)) (now (rows .entry)) (now (plan .entry)) r (now (count .exit)) (now (number .exit)) (now (place .exit)) (now (second .exit)) (now (rows .exit)) (now (plan .exit)) ⌝ }
 {
     let planned = planner::plan(words, rows, plan);
     *count = 0;
@@ -56,14 +47,7 @@ pub extern "C" fn skarnuth_plan(words: &[u16], rows: &mut [u64], plan: &mut [u16
 // Plans, checks and runs, as `runner::run`.
 #[no_mangle]
 pub extern "C" fn skarnuth_run(words: &[u16], rows: &mut [u64], plan: &mut [u16], tree: &[u16], values: &mut [i32], budget: u32, count: &mut u64, number: &mut u64, place: &mut u64, second: &mut u64) -> u32
-    ensures { λ r. ⌜ r ≡ told.running (now (words .entry)) (now (rows .entry)) (now (plan .entry)) (now (tree .entry)) (now (values .entry)) budget .status ⌝ }
-    ensures { λ _. ⌜ now (count .exit) ≡ told.running (now (words .entry)) (now (rows .entry)) (now (plan .entry)) (now (tree .entry)) (now (values .entry)) budget .count ⌝ }
-    ensures { λ _. ⌜ now (number .exit) ≡ told.running (now (words .entry)) (now (rows .entry)) (now (plan .entry)) (now (tree .entry)) (now (values .entry)) budget .number ⌝ }
-    ensures { λ _. ⌜ now (place .exit) ≡ told.running (now (words .entry)) (now (rows .entry)) (now (plan .entry)) (now (tree .entry)) (now (values .entry)) budget .place ⌝ }
-    ensures { λ _. ⌜ now (second .exit) ≡ told.running (now (words .entry)) (now (rows .entry)) (now (plan .entry)) (now (tree .entry)) (now (values .entry)) budget .second ⌝ }
-    ensures { λ _. ⌜ now (values .exit) ≡ whole.values (now (words .entry)) (now (rows .entry)) (now (plan .entry)) (now (tree .entry)) (now (values .entry)) budget ⌝ }
-    ensures { λ _. ⌜ now (rows .exit) ≡ answer.rowsAfter (now (words .entry)) (whole.came (now (words .entry)) (now (rows .entry)) (now (plan .entry))) (now (rows .entry)) ⌝ }
-    ensures { λ _. ⌜ now (plan .exit) ≡ answer.planAfter (now (words .entry)) (whole.came (now (words .entry)) (now (rows .entry)) (now (plan .entry))) (now (plan .entry)) ⌝ }
+    ensures { λ r. ⌜ answered.RunAnswered (now (words .entry)) (now (rows .entry)) (now (plan .entry)) (now (tree .entry)) (now (values .entry)) budget r (now (count .exit)) (now (number .exit)) (now (place .exit)) (now (second .exit)) (now (values .exit)) (now (rows .exit)) (now (plan .exit)) ⌝ }
 {
     let ran = runner::run(words, rows, plan, tree, values, budget);
     *count = 0;

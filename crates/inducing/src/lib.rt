@@ -63,7 +63,7 @@ fn join(rows: &mut [u64], base: usize, among: u64, from: u64, to: u64)
 
 // Adds the arcs of a set, in which 8a + b is the arc from attribute a to attribute b, at position i: attribute by attribute those that are
 // missing, up to the highest that has arcs.
-pub fn induce_at(rows: &mut [u64], base: usize, among: u64, i: usize, arcs: u64)
+fn induce_at(rows: &mut [u64], base: usize, among: u64, i: usize, arcs: u64)
     requires { ⌜ (base + 64 ≤ length (now rows)) × (i < 8) ⌝ }
     requires { ⌜ Kept (now rows) base among ⌝ }
     requires { ⌜ Ends among i arcs ⌝ }

@@ -5,13 +5,10 @@ use planning::Planned;
 use refusals::Refusal;
 
 ghost use mathlib.Core.Path.{_≡_};
-ghost use Prim.Native.Nat.{_+_, _*_, _≤_, _<_};
 ghost use lib.ListN.{length};
-ghost use Rattle.grammar.specs.declared.Verdict.the-variants.{Good};
-ghost use Rattle.grammar.specs.Reading.{readTable};
-ghost use Rattle.reader.specs.Offsets.{offsetsFor};
 ghost use Rattle.planning.specs.Buffers.{over};
 ghost use Rattle.planning.specs.Answer as answer;
+ghost use Rattle.planner.specs.Answered as answered;
 ghost use Rattle.planner.specs.Ready as ready;
 
 // 8: room in the rows, then in the plan.
@@ -40,20 +37,13 @@ fn write_plan(words: &[u16], offsets: &[u16; 64], sets: &[u16; 256], rows: &[u64
     }
 }
 
-// What comes after the room: IDP, the sets, EDP and the plan.
-fn plan_relations(words: &[u16], offsets: &[u16; 64], rows: &mut [u64], plan: &mut [u16]) -> Planned
-    requires { ⌜ ready.Read (now words) (now offsets) (length (now rows)) (length (now plan)) ⌝ }
-    ensures { λ r. ⌜ r ≡ answer.answerOf (now (words .entry)) (answer.afterRoom (now (words .entry)) (ready.ids (now (words .entry)))) ⌝ }
-    ensures { λ _. ⌜ now (rows .exit) ≡ answer.rowsAfter (now (words .entry)) (answer.afterRoom (now (words .entry)) (ready.ids (now (words .entry)))) (now (rows .entry)) ⌝ }
-    ensures { λ _. ⌜ now (plan .exit) ≡ answer.planAfter (now (words .entry)) (answer.afterRoom (now (words .entry)) (ready.ids (now (words .entry)))) (now (plan .entry)) ⌝ }
+// What comes after 9: the sets, EDP and the plan.
+fn plan_noncircular(words: &[u16], offsets: &[u16; 64], ids: &[u64; 32], rows: &mut [u64], plan: &mut [u16]) -> Planned
+    requires { ⌜ ready.Noncircular (now words) (now offsets) (now ids) (now rows) (length (now plan)) ⌝ }
+    ensures { λ r. ⌜ ready.Came (now (words .entry)) (ready.afterNine (now (words .entry))) (now (rows .entry)) (now (plan .entry)) r (now (rows .exit)) (now (plan .exit)) ⌝ }
 {
     let rules = reader::word(words, 1);
-    let ids = inducing::induce(words, offsets, rows);
-    let idp_cycle = inducing::find_cycle(rows, rules);
-    if let Cycle::At(r, o) = idp_cycle {
-        return Planned::Refused(Refusal::CircularIdp(r, o));
-    }
-    let sets = placing::sets_of(words, &ids);
+    let sets = placing::sets_of(words, ids);
     extending::extend(words, offsets, &sets, rows);
     let edp_cycle = inducing::find_cycle(rows, rules);
     if let Cycle::At(r, o) = edp_cycle {
@@ -63,11 +53,22 @@ fn plan_relations(words: &[u16], offsets: &[u16; 64], rows: &mut [u64], plan: &m
     Planned::Accepted(256 + 112 * rules)
 }
 
+// What comes after the room: IDP, and the rest where it has no cycle.
+fn plan_relations(words: &[u16], offsets: &[u16; 64], rows: &mut [u64], plan: &mut [u16]) -> Planned
+    requires { ⌜ ready.Read (now words) (now offsets) (length (now rows)) (length (now plan)) ⌝ }
+    ensures { λ r. ⌜ ready.Came (now (words .entry)) (ready.afterEight (now (words .entry))) (now (rows .entry)) (now (plan .entry)) r (now (rows .exit)) (now (plan .exit)) ⌝ }
+{
+    let ids = inducing::induce(words, offsets, rows);
+    let idp_cycle = inducing::find_cycle(rows, reader::word(words, 1));
+    if let Cycle::At(r, o) = idp_cycle {
+        return Planned::Refused(Refusal::CircularIdp(r, o));
+    }
+    plan_noncircular(words, offsets, &ids, rows, plan)
+}
+
 // Plans a grammar. What a refusal leaves in the buffers is what the definitions say of the outcome.
 pub fn plan(words: &[u16], rows: &mut [u64], plan: &mut [u16]) -> Planned
-    ensures { λ r. ⌜ r ≡ answer.answerOf (now (words .entry)) (answer.outcome (now (words .entry)) (length (now (rows .entry))) (length (now (plan .entry)))) ⌝ }
-    ensures { λ _. ⌜ now (rows .exit) ≡ answer.rowsAfter (now (words .entry)) (answer.outcome (now (words .entry)) (length (now (rows .entry))) (length (now (plan .entry)))) (now (rows .entry)) ⌝ }
-    ensures { λ _. ⌜ now (plan .exit) ≡ answer.planAfter (now (words .entry)) (answer.outcome (now (words .entry)) (length (now (rows .entry))) (length (now (plan .entry)))) (now (plan .entry)) ⌝ }
+    ensures { λ r. ⌜ answered.Answered (now (words .entry)) (now (rows .entry)) (now (plan .entry)) r (now (rows .exit)) (now (plan .exit)) ⌝ }
 {
     let reading = reading::read(words);
     let verdict = reading.verdict;

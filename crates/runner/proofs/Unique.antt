@@ -1,19 +1,19 @@
--- The contract of `run` leaves one answer and one content of values, rows and plan for every input.
+-- For every input there is one answer and one content of values, rows and plan that meet the contract of `run`, and only one.
 -- Assumes nothing.
-use mathlib.Core.Path.{_≡_, sym, _∙_}
+use mathlib.Core.Path.{_≡_, refl, sym, _∙_}
 use mathlib.Core.List.{List}
 use Prim.Native.Nat.{ℕ}
 use lib.IntN.{ℤ}
 use Rattle.planning.specs.Answer.{rowsAfter, planAfter}
 use Rattle.running.specs.declared.Ran as R
 use Rattle.runner.specs.Whole.{came, answer, values}
+use Rattle.runner.specs.Answered.{Answered}
 
--- what the contract says of an answer and what is left
-pub record Answered (g rows plan t : List ℕ) (vs : List ℤ) (budget : ℕ) (ran : R.Ran) (vs′ : List ℤ) (rows′ plan′ : List ℕ) : Type 0 where
-  pub answers : ran ≡ answer g rows plan t vs budget
-  pub valuesAre : vs′ ≡ values g rows plan t vs budget
-  pub rowsAre : rows′ ≡ rowsAfter g (came g rows plan) rows
-  pub planIs : plan′ ≡ planAfter g (came g rows plan) plan
+pub every-input : (g rows plan t : List ℕ) (vs : List ℤ) (budget : ℕ)
+    → (ran : R.Ran) × (vs′ : List ℤ) × (rows′ : List ℕ) × (plan′ : List ℕ) × Answered g rows plan t vs budget ran vs′ rows′ plan′
+every-input g rows plan t vs budget =
+    (answer g rows plan t vs budget, values g rows plan t vs budget, rowsAfter g (came g rows plan) rows, planAfter g (came g rows plan) plan,
+    record { answers = refl; valuesAre = refl; rowsAre = refl; planIs = refl })
 
 pub one-answer : (g rows plan t : List ℕ) (vs : List ℤ) (budget : ℕ) (a b : R.Ran) (vs₁ : List ℤ) (rows₁ plan₁ : List ℕ) (vs₂ : List ℤ)
     (rows₂ plan₂ : List ℕ) → Answered g rows plan t vs budget a vs₁ rows₁ plan₁ → Answered g rows plan t vs budget b vs₂ rows₂ plan₂

@@ -1,7 +1,7 @@
 -- What a whole run answers and leaves, by what planning answered and what the check found.
 -- Assumes nothing.
 use Prim.Native.Nat.{ℕ, _≤_}
-use mathlib.Core.Path.{_≡_, refl, sym, _∙_, ap, subst⁻¹}
+use mathlib.Core.Path.{_≡_, refl, sym, _∙_, ap, subst, subst⁻¹}
 use mathlib.Core.List.{List}
 use native.Mathlib.Omega.{arith}
 use lib.IntN.{ℤ}
@@ -17,9 +17,10 @@ use Rattle.checking.specs.Walk.{Ready}
 use Rattle.planning.specs.declared.Planned as P
 use Rattle.planning.specs.Buffers.{over}
 use Rattle.planning.specs.Answer.{
-    Outcome, untouched, circularIdp, unordered, accepted, outcome, answerOf, rowsAfter, planAfter, acceptedPlan
+    Outcome, untouched, circularIdp, unordered, accepted, outcome, answerOf, planAfter, acceptedPlan
 }
 use Rattle.planning.proofs.Ordered.{CycleFree, accepted-free}
+use Rattle.planner.specs.Answered as planner
 use Rattle.planner.proofs.RoomLaws.{plan-room}
 use Rattle.planner.proofs.AcceptedLaws.{is-accepted, both-good}
 use Rattle.planning.proofs.RowWords.{over-size}
@@ -28,7 +29,8 @@ use Rattle.trees.specs.Checking.{checkTree}
 use Rattle.running.specs.declared.Ran as R
 use Rattle.running.specs.Run.{ran, runAnswer, valuesAfter}
 use Rattle.running.proofs.PlannedSound.{planned-sound}
-use Rattle.runner.specs.Whole.{came, leftPlan, answer, values, treeAnswer, treeValues, Planned}
+use Rattle.runner.specs.Answered.{Answered}
+use Rattle.runner.specs.Whole.{came, leftPlan, answer, values, Planned, Checked}
 
 -- the check has what it asks for
 pub read-ready : (g offsets : List ℕ) → readTable g ≡ Good → offsets ≡ offsetsFor g (readTable g) → Ready g offsets
@@ -39,19 +41,27 @@ starts-good g offsets good e = e ∙ ap (offsetsFor g) good
 
 -- 12 to 18 leave the values
 pub tree-refused : (g p t : List ℕ) (vs : List ℤ) (budget : ℕ) (v : Verdict) (n : Refusal) → v ≡ checkTree g t (length vs) → v ≡ Refused n
-    → (R.the-variants.Refused n ≡ treeAnswer g p t vs budget) × (vs ≡ treeValues g p t vs budget)
+    → Checked g p t vs budget (R.the-variants.Refused n) vs
 unfolding runAnswer valuesAfter
 tree-refused g p t vs budget v n e f =
     let q : checkTree g t (length vs) ≡ Refused n = sym e ∙ f in
-    (sym (ap (λ (x : Verdict). runAnswer g p t accepted x vs budget) q), sym (ap (λ (x : Verdict). valuesAfter g p t accepted x vs budget) q))
+    record {
+        answers = sym (ap (λ (x : Verdict). runAnswer g p t accepted x vs budget) q);
+        valuesAre = sym (ap (λ (x : Verdict). valuesAfter g p t accepted x vs budget) q)
+    }
 
 pub tree-ran : (g p t : List ℕ) (vs : List ℤ) (budget : ℕ) (v : Verdict) (r : R.Ran) (next : List ℤ) → v ≡ checkTree g t (length vs) → v ≡ Good
-    → r ≡ ran g p t vs budget .answer → next ≡ ran g p t vs budget .machine .values
-    → (r ≡ treeAnswer g p t vs budget) × (next ≡ treeValues g p t vs budget)
+    → r ≡ ran g p t vs budget .answer → next ≡ ran g p t vs budget .machine .values → Checked g p t vs budget r next
 unfolding runAnswer valuesAfter
 tree-ran g p t vs budget v r next e f a b =
     let q : checkTree g t (length vs) ≡ Good = sym e ∙ f in
-    (a ∙ sym (ap (λ (x : Verdict). runAnswer g p t accepted x vs budget) q), b ∙ sym (ap (λ (x : Verdict). valuesAfter g p t accepted x vs budget) q))
+    record {
+        answers = a ∙ sym (ap (λ (x : Verdict). runAnswer g p t accepted x vs budget) q);
+        valuesAre = b ∙ sym (ap (λ (x : Verdict). valuesAfter g p t accepted x vs budget) q)
+    }
+
+pub tree-good : (g t : List ℕ) (n : ℕ) (v : Verdict) → v ≡ checkTree g t n → v ≡ Good → checkTree g t n ≡ Good
+tree-good g t n v e f = sym e ∙ f
 
 module _ (g : List ℕ) where
   refused-answer : (o : Outcome) (n : Refusal) (p t : List ℕ) (v : Verdict) (vs : List ℤ) (budget : ℕ) → P.the-variants.Refused n ≡ answerOf g o
@@ -74,35 +84,36 @@ module _ (g : List ℕ) where
           long = omega (arith, over-size (acceptedPlan g) plan (omega (arith, plan-length g plan)))
       }
 
-  pub run-planned : (rows plan : List ℕ) (planned : P.Planned) (plan′ : List ℕ) (n : ℕ) → planned ≡ answerOf g (outcome g (length rows) (length plan))
-      → plan′ ≡ planAfter g (outcome g (length rows) (length plan)) plan → planned ≡ P.the-variants.Accepted n → Planned g plan′
+-- what planning answered and left settles the rest
+module _ (g rows plan : List ℕ) (planned : P.Planned) (rows′ plan′ : List ℕ) (w : planner.Answered g rows plan planned rows′ plan′) where
+  pub run-planned : (n : ℕ) → planned ≡ P.the-variants.Accepted n → Planned g plan′
   unfolding planAfter
-  run-planned rows plan planned plan′ n answers planIs e =
-      let q = is-accepted g (outcome g (length rows) (length plan)) n (sym e ∙ answers) in
-      subst⁻¹ (Planned g) (planIs ∙ ap (λ (o : Outcome). planAfter g o plan) q) (plan-sound rows plan q)
+  run-planned n e =
+      let q = is-accepted g (outcome g (length rows) (length plan)) n (sym e ∙ w .answers) in
+      subst⁻¹ (Planned g) (w .planIs ∙ ap (λ (o : Outcome). planAfter g o plan) q) (plan-sound g rows plan q)
 
-  module _ (rows plan t : List ℕ) (vs : List ℤ) (budget : ℕ) (planned : P.Planned) (rows′ plan′ : List ℕ)
-      (answers : planned ≡ answerOf g (outcome g (length rows) (length plan)))
-      (rowsAre : rows′ ≡ rowsAfter g (outcome g (length rows) (length plan)) rows)
-      (planIs : plan′ ≡ planAfter g (outcome g (length rows) (length plan)) plan) where
+  module _ (t : List ℕ) (vs : List ℤ) (budget : ℕ) where
     pub run-refused : (n : Refusal) → planned ≡ P.the-variants.Refused n
-        → (R.the-variants.Refused n ≡ answer g rows plan t vs budget) × ((vs ≡ values g rows plan t vs budget)
-        × ((rows′ ≡ rowsAfter g (came g rows plan) rows) × (plan′ ≡ planAfter g (came g rows plan) plan)))
+        → Answered g rows plan t vs budget (R.the-variants.Refused n) vs rows′ plan′
     unfolding came answer values
     run-refused n e =
-        let w = refused-answer (outcome g (length rows) (length plan)) n (leftPlan g rows plan) t (checkTree g t (length vs)) vs budget (sym e ∙ answers) in
-        (w .0, (w .1, (rowsAre, planIs)))
+        let o : Outcome = outcome g (length rows) (length plan) in
+        let a = refused-answer g o n (leftPlan g rows plan) t (checkTree g t (length vs)) vs budget (sym e ∙ w .answers) in
+        record { answers = a .0; valuesAre = a .1; rowsAre = w .rowsAre; planIs = w .planIs }
 
-    pub run-ran : (n : ℕ) (r : R.Ran) (next : List ℤ) → planned ≡ P.the-variants.Accepted n → r ≡ treeAnswer g plan′ t vs budget
-        → next ≡ treeValues g plan′ t vs budget
-        → (r ≡ answer g rows plan t vs budget) × ((next ≡ values g rows plan t vs budget)
-        × ((rows′ ≡ rowsAfter g (came g rows plan) rows) × (plan′ ≡ planAfter g (came g rows plan) plan)))
+    pub run-ran : (n : ℕ) (r : R.Ran) (next : List ℤ) → planned ≡ P.the-variants.Accepted n → Checked g plan′ t vs budget r next
+        → Answered g rows plan t vs budget r next rows′ plan′
     unfolding came answer values
-    run-ran n r next e a b =
-        let q = is-accepted g (outcome g (length rows) (length plan)) n (sym e ∙ answers) in
+    run-ran n r next e d =
+        let q = is-accepted g (outcome g (length rows) (length plan)) n (sym e ∙ w .answers) in
         let v : Verdict = checkTree g t (length vs) in
-        (a ∙ (ap (λ (p : List ℕ). runAnswer g p t accepted v vs budget) planIs
-        ∙ ap (λ (o : Outcome). runAnswer g (leftPlan g rows plan) t o v vs budget) (sym q)),
-        (b ∙ (ap (λ (p : List ℕ). valuesAfter g p t accepted v vs budget) planIs
-        ∙ ap (λ (o : Outcome). valuesAfter g (leftPlan g rows plan) t o v vs budget) (sym q)),
-        (rowsAre, planIs)))
+        record {
+            answers =
+                d .answers ∙ (ap (λ (p : List ℕ). runAnswer g p t accepted v vs budget) (w .planIs)
+                ∙ ap (λ (o : Outcome). runAnswer g (leftPlan g rows plan) t o v vs budget) (sym q));
+            valuesAre =
+                d .valuesAre ∙ (ap (λ (p : List ℕ). valuesAfter g p t accepted v vs budget) (w .planIs)
+                ∙ ap (λ (o : Outcome). valuesAfter g (leftPlan g rows plan) t o v vs budget) (sym q));
+            rowsAre = w .rowsAre;
+            planIs = w .planIs
+        }

@@ -30,14 +30,13 @@ unfoldable pub values : List ℕ → List ℕ → List ℕ → List ℕ → List
 values g rows plan t vs budget =
     valuesAfter g (leftPlan g rows plan) t (came g rows plan) (checkTree g t (length vs)) vs budget
 
--- the same once p is the plan of an accepted grammar
-abbrev pub treeAnswer : List ℕ → List ℕ → List ℕ → List ℤ → ℕ → R.Ran
-treeAnswer g p t vs budget = runAnswer g p t accepted (checkTree g t (length vs)) vs budget
-
-abbrev pub treeValues : List ℕ → List ℕ → List ℕ → List ℤ → ℕ → List ℤ
-treeValues g p t vs budget = valuesAfter g p t accepted (checkTree g t (length vs)) vs budget
-
+-- p is a plan that can be run: the table is accepted, the plan is sound and none of it is missing
 pub record Planned (g p : List ℕ) : Type 0 where
   pub good : readTable g ≡ Good
   pub soundPlan : sound.Sound g p
   pub long : 256 + 112 * rules g ≤ length p
+
+-- what the check of the tree and the run of plan p answer and leave
+pub record Checked (g p t : List ℕ) (vs : List ℤ) (budget : ℕ) (ran : R.Ran) (vs′ : List ℤ) : Type 0 where
+  pub answers : ran ≡ runAnswer g p t accepted (checkTree g t (length vs)) vs budget
+  pub valuesAre : vs′ ≡ valuesAfter g p t accepted (checkTree g t (length vs)) vs budget

@@ -36,49 +36,49 @@ pub fn constant(word: u16) -> i32
 }
 
 // x + y, held at the ends.
-pub fn add(x: i32, y: i32) -> i32
+fn add(x: i32, y: i32) -> i32
     ensures { λ r. ⌜ r ≡ value.hold (x +ℤ y) ⌝ }
 {
     held(widened(x) + widened(y))
 }
 
 // x - y, held at the ends.
-pub fn subtract(x: i32, y: i32) -> i32
+fn subtract(x: i32, y: i32) -> i32
     ensures { λ r. ⌜ r ≡ value.hold (x -ℤ y) ⌝ }
 {
     held(widened(x) - widened(y))
 }
 
 // The larger of two.
-pub fn larger(x: i32, y: i32) -> i32
+fn larger(x: i32, y: i32) -> i32
     ensures { λ r. ⌜ r ≡ value.larger x y ⌝ }
 {
     if x < y { y } else { x }
 }
 
 // The smaller of two.
-pub fn smaller(x: i32, y: i32) -> i32
+fn smaller(x: i32, y: i32) -> i32
     ensures { λ r. ⌜ r ≡ value.smaller x y ⌝ }
 {
     if x < y { x } else { y }
 }
 
 // 1 if x < y, else 0.
-pub fn less(x: i32, y: i32) -> i32
+fn less(x: i32, y: i32) -> i32
     ensures { λ r. ⌜ r ≡ value.less x y ⌝ }
 {
     if x < y { 1 } else { 0 }
 }
 
 // y if x is not 0, else z.
-pub fn choose(x: i32, y: i32, z: i32) -> i32
+fn choose(x: i32, y: i32, z: i32) -> i32
     ensures { λ r. ⌜ r ≡ value.choose x y z ⌝ }
 {
     if x == 0 { z } else { y }
 }
 
 // The service order: higher priority, then lower source number.
-pub fn served_before(p: i32, s: i32, q: i32, t: i32) -> i32
+fn served_before(p: i32, s: i32, q: i32, t: i32) -> i32
     ensures { λ r. ⌜ r ≡ value.servedBefore p s q t ⌝ }
 {
     if q < p {

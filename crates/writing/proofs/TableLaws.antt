@@ -21,6 +21,7 @@ use Rattle.grammar.specs.Reading.{readTable}
 use Rattle.planning.specs.declared.Planned as P
 use Rattle.planning.specs.Buffers.{over}
 use Rattle.planning.specs.Answer.{Outcome, untouched, circularIdp, unordered, accepted, outcome, answerOf, planAfter, acceptedPlan}
+use Rattle.planner.specs.Answered.{Answered}
 use Rattle.planner.proofs.AcceptedLaws.{is-accepted, both-good}
 use Rattle.text.specs.Listing.{refusalLine, outcomeText, tableText, planText, wordsOf, mostBytes, bytesText, listing}
 use Rattle.writing.specs.Shown.{Shows, Adds, planLines}
@@ -76,27 +77,26 @@ refused-text g (circularIdp k) n e = let q : n ≡ k = cc in ap refusalLine q
 refused-text g (unordered k) n e = let q : n ≡ k = cc in ap refusalLine q
 refused-text g accepted n e = absurd (let z : _≡_ {A = ℕ} 0 1 = cc in omega arith)
 
-pub list-refused : (lent out g rows plan : List ℕ) (at : ℕ) (planned : P.Planned) (n : Refusal) → length rows ≡ 4096 → length plan ≡ 7424
-    → planned ≡ answerOf g (outcome g (length rows) (length plan)) → planned ≡ P.the-variants.Refused n → Adds lent 0 (refusalLine n) out at
-    → Shows lent (tableText g) out at
-unfolding tableText
-list-refused lent out g rows plan at planned n lr lp a e s =
-    let o : outcome g (length rows) (length plan) ≡ outcome g 4096 7424 = ap₂ (λ (x y : ℕ). outcome g x y) lr lp in
-    subst (λ (t : List ℕ). Shows lent t out at) (refused-text g (outcome g 4096 7424) n (sym e ∙ (a ∙ ap (answerOf g) o))) (from-start s)
+-- rows and plan are long enough for every table
+module _ (lent out g rows plan rows′ plan′ : List ℕ) (at : ℕ) (planned : P.Planned) (lr : length rows ≡ 4096) (lp : length plan ≡ 7424)
+    (w : Answered g rows plan planned rows′ plan′) where
+  long-enough : outcome g (length rows) (length plan) ≡ outcome g 4096 7424
+  long-enough = ap₂ (λ (x y : ℕ). outcome g x y) lr lp
 
-pub list-accepted : (lent out g rows plan plan′ : List ℕ) (at : ℕ) (planned : P.Planned) (n : ℕ) → length rows ≡ 4096 → length plan ≡ 7424
-    → planned ≡ answerOf g (outcome g (length rows) (length plan)) → plan′ ≡ planAfter g (outcome g (length rows) (length plan)) plan
-    → planned ≡ P.the-variants.Accepted n → Shows lent (planLines g plan′) out at → Shows lent (tableText g) out at
-unfolding tableText planAfter
-list-accepted lent out g rows plan plan′ at planned n lr lp a planIs e s =
-    let q : outcome g (length rows) (length plan) ≡ accepted = is-accepted g (outcome g (length rows) (length plan)) n (sym e ∙ a) in
-    let good : readTable g ≡ Good = both-good g (length rows) (length plan) q .0 in
-    let o : outcome g 4096 7424 ≡ accepted = sym (ap₂ (λ (x y : ℕ). outcome g x y) lr lp) ∙ q in
-    subst (λ (t : List ℕ). Shows lent t out at)
-    (ap (planLines g) (planIs ∙ ap (λ (x : Outcome). planAfter g x plan) q) ∙ (lines-of-plan g good plan ∙ sym (shown-plan o))) s
-  where
-    shown-plan : outcome g 4096 7424 ≡ accepted → outcomeText g (outcome g 4096 7424) ≡ planText g
-    shown-plan o = ap (outcomeText g) o ∙ (unfold outcomeText in refl)
+  pub list-refused : (n : Refusal) → planned ≡ P.the-variants.Refused n → Adds lent 0 (refusalLine n) out at → Shows lent (tableText g) out at
+  unfolding tableText
+  list-refused n e s =
+      subst (λ (t : List ℕ). Shows lent t out at)
+      (refused-text g (outcome g 4096 7424) n (sym e ∙ (w .answers ∙ ap (answerOf g) long-enough))) (from-start s)
+
+  pub list-accepted : (n : ℕ) → planned ≡ P.the-variants.Accepted n → Shows lent (planLines g plan′) out at → Shows lent (tableText g) out at
+  unfolding tableText planAfter outcomeText
+  list-accepted n e s =
+      let q : outcome g (length rows) (length plan) ≡ accepted = is-accepted g (outcome g (length rows) (length plan)) n (sym e ∙ w .answers) in
+      let good : readTable g ≡ Good = both-good g (length rows) (length plan) q .0 in
+      let text : planText g ≡ outcomeText g (outcome g 4096 7424) = ap (outcomeText g) (sym q ∙ long-enough) in
+      subst (λ (t : List ℕ). Shows lent t out at)
+      (ap (planLines g) (w .planIs ∙ ap (λ (x : Outcome). planAfter g x plan) q) ∙ (lines-of-plan g good plan ∙ text)) s
 
 -- an odd count of bytes, and an even one
 pub odd-bytes : (lent out bytes : List ℕ) (at : ℕ) → (length bytes % 2 ≡ 0 → ⊥) → Adds lent 0 (refusalLine (EndsEarly (length bytes / 2))) out at

@@ -1,7 +1,7 @@
--- The contract of `list` leaves one content of the buffer and one count for every input, and with the program's buffer that is the whole
--- listing. Assumes nothing.
+-- For every input there is one content of the buffer and one count that meet the contract of `list`, and only one; with the program's buffer
+-- that is the whole listing. Assumes nothing.
 use Prim.Native.Nat.{ℕ, _≤_, min}
-use mathlib.Core.Path.{_≡_, sym, _∙_, ap}
+use mathlib.Core.Path.{_≡_, refl, sym, _∙_, ap}
 use mathlib.Core.List.{List}
 use native.Mathlib.Omega.{arith}
 use lib.ListN.{length, take}
@@ -10,6 +10,11 @@ use Rattle.planning.specs.Buffers.{over}
 use Rattle.text.specs.Listing.{listing}
 use Rattle.writing.specs.Shown.{Shows}
 use Rattle.writing.proofs.Fits.{listing-fits}
+
+-- the contract of `list` is Shows of the text `listing input`
+pub every-input : (lent text : List ℕ) → (out : List ℕ) × (at : ℕ) × Shows lent text out at
+every-input lent text =
+    (over (take (length lent) text) lent, min (length lent) (length text), record { counted = refl; shown = refl })
 
 pub one-answer : (lent text out₁ out₂ : List ℕ) (at₁ at₂ : ℕ) → Shows lent text out₁ at₁ → Shows lent text out₂ at₂ → (out₁ ≡ out₂) × (at₁ ≡ at₂)
 one-answer lent text out₁ out₂ at₁ at₂ v w = (v .shown ∙ sym (w .shown), v .counted ∙ sym (w .counted))

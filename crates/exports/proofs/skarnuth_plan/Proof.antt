@@ -3,10 +3,6 @@ use Rattle.exports.proofs.TellLaws.{plan-accepted, plan-refused}
 use borrow.Author.Needs.{needs}
 use Rattle.exports.proofs.skarnuth_plan.Statement.{statement}
 use Rattle.exports.proofs.skarnuth_plan.Tie as tie
-use Rattle.exports.proofs.skarnuth_plan.Reads as reads
-use Rattle.exports.proofs.skarnuth_plan.Lts as lts
-use Rattle.exports.proofs.refuse.Reads as refuse-reads
-use Rattle.planner.proofs.plan.Reads as plan-reads
 
 plan-requires : tie.Need-plan-requires
 plan-requires c κs = search needs
@@ -27,12 +23,7 @@ same-length-2 : tie.Need-same-length-2
 same-length-2 c = search needs
 
 returns : tie.Need-returns
-returns c =
-    plan-accepted _ (c .before .before .before .before .before .before .before .before .before .before .before .before .before .args .rows
-    .now) (c .before .before .before .before .before .before .before .before .before .before .before .before .before .args .plan .now) _ _
-    _ (c .before .before .before .before .before .before .before .plan .ensures .0) (c .before .before .before .before .before .before
-    .before .plan .ensures .1 .0) (c .before .before .before .before .before .before .before .plan .ensures .1 .1) _ (c .before .planned
-    .given .1)
+returns c = search plan-accepted
 
 same-length-3 : tie.Need-same-length-3
 same-length-3 c = search needs
@@ -41,14 +32,7 @@ same-length-4 : tie.Need-same-length-4
 same-length-4 c = search needs
 
 returns-2 : tie.Need-returns-2
-returns-2 c =
-    plan-refused _ (c .before .before .before .before .before .before .before .before .before .before .before .before .before .before
-    .before .before .before .args .rows .now) (c .before .before .before .before .before .before .before .before .before .before .before
-    .before .before .before .before .before .before .args .plan .now) _ _ _ (c .before .before .before .before .before .before .before
-    .before .before .before .before .plan .ensures .0) (c .before .before .before .before .before .before .before .before .before .before
-    .before .plan .ensures .1 .0) (c .before .before .before .before .before .before .before .before .before .before .before .plan .ensures
-    .1 .1) _ _ _ _ _ (c .before .before .before .before .before .planned2 .given .1) (c .refuse .ensures .0) (c .refuse .ensures .1 .0) (c
-    .refuse .ensures .1 .1 .0) (c .refuse .ensures .1 .1 .1)
+returns-2 c = search plan-refused
 
 pub skarnuth-plan-spec : {M : Type 1} → statement M
 skarnuth-plan-spec =

@@ -3,10 +3,6 @@ use Rattle.exports.proofs.TellLaws.{run-done, run-stopped, run-refused}
 use borrow.Author.Needs.{needs}
 use Rattle.exports.proofs.skarnuth_run.Statement.{statement}
 use Rattle.exports.proofs.skarnuth_run.Tie as tie
-use Rattle.exports.proofs.skarnuth_run.Reads as reads
-use Rattle.exports.proofs.skarnuth_run.Lts as lts
-use Rattle.exports.proofs.refuse.Reads as refuse-reads
-use Rattle.runner.proofs.run.Reads as run-reads
 
 run-requires : tie.Need-run-requires
 run-requires c κs = search needs
@@ -39,11 +35,7 @@ same-length-3 : tie.Need-same-length-3
 same-length-3 c = search needs
 
 returns : tie.Need-returns
-returns c =
-    run-done _ _ _ _ _ _ _ _ _ _ (c .before .before .before .before .before .before .before .before .run .ensures .0) (c .before .before
-    .before .before .before .before .before .before .run .ensures .1 .0) (c .before .before .before .before .before .before .before .before
-    .run .ensures .1 .1 .0) (c .before .before .before .before .before .before .before .before .run .ensures .1 .1 .1) _ (c .before .ran
-    .given .1)
+returns c = search run-done
 
 same-length-4 : tie.Need-same-length-4
 same-length-4 c = search needs
@@ -55,11 +47,7 @@ same-length-6 : tie.Need-same-length-6
 same-length-6 c = search needs
 
 returns-2 : tie.Need-returns-2
-returns-2 c =
-    run-stopped _ _ _ _ _ _ _ _ _ _ (c .before .before .before .before .before .before .before .before .run .ensures .0) (c .before .before
-    .before .before .before .before .before .before .run .ensures .1 .0) (c .before .before .before .before .before .before .before .before
-    .run .ensures .1 .1 .0) (c .before .before .before .before .before .before .before .before .run .ensures .1 .1 .1) _ (c .before .ran2
-    .given .1)
+returns-2 c = search run-stopped
 
 same-length-7 : tie.Need-same-length-7
 same-length-7 c = search needs
@@ -71,13 +59,7 @@ same-length-9 : tie.Need-same-length-9
 same-length-9 c = search needs
 
 returns-3 : tie.Need-returns-3
-returns-3 c =
-    run-refused _ _ _ _ _ _ _ _ _ _ (c .before .before .before .before .before .before .before .before .before .before .before .before .run
-    .ensures .0) (c .before .before .before .before .before .before .before .before .before .before .before .before .run .ensures .1 .0) (c
-    .before .before .before .before .before .before .before .before .before .before .before .before .run .ensures .1 .1 .0) (c .before
-    .before .before .before .before .before .before .before .before .before .before .before .run .ensures .1 .1 .1) _ _ _ _ _ (c .before
-    .before .before .before .before .ran3 .given .1) (c .refuse .ensures .0) (c .refuse .ensures .1 .0) (c .refuse .ensures .1 .1 .0) (c
-    .refuse .ensures .1 .1 .1)
+returns-3 c = search run-refused
 
 pub skarnuth-run-spec : {M : Type 1} → statement M
 skarnuth-run-spec =

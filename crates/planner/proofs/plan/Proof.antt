@@ -1,13 +1,9 @@
--- `planner::plan` meets its contract. Assumes nothing.
-use Rattle.planner.proofs.StageLaws.{read-refused, room-refused, ready-read, relations-came}
+-- `planner::plan` meets its contract: a fault of the table or of the room is refused with nothing written, and what follows comes after 8.
+-- Assumes nothing.
+use Rattle.planner.proofs.StageLaws.{read-refused, room-refused, ready-read, relations-answered}
 use borrow.Author.Needs.{needs}
 use Rattle.planner.proofs.plan.Statement.{statement}
 use Rattle.planner.proofs.plan.Tie as tie
-use Rattle.planner.proofs.plan.Reads as reads
-use Rattle.planner.proofs.plan.Lts as lts
-use Rattle.planner.proofs.plan_relations.Reads as plan-relations-reads
-use Rattle.planner.proofs.room.Reads as room-reads
-use Rattle.reading.proofs.read.Reads as read-reads
 
 read-requires : tie.Need-read-requires
 read-requires c κs = search needs
@@ -16,7 +12,7 @@ enum-known-verdict : tie.Need-enum-known-verdict
 enum-known-verdict c = search needs
 
 returns : tie.Need-returns
-returns c = read-refused _ _ _ _ _ (c .before .before .before .read .ensures .0) (c .before .verdict .given .1)
+returns c = search read-refused
 
 enum-told : tie.Need-enum-told
 enum-told c = search needs
@@ -28,19 +24,13 @@ enum-known-space : tie.Need-enum-known-space
 enum-known-space c = search needs
 
 returns-2 : tie.Need-returns-2
-returns-2 c =
-    room-refused _ _ _ _ _ _ (c .before .before .before .before .before .before .read .ensures .0) (c .before .before .before .before
-    .enum-told .given .1) (c .before .before .before .room .ensures) (c .before .space .given .1)
+returns-2 c = search room-refused
 
 enum-told-2 : tie.Need-enum-told-2
 enum-told-2 c = search needs
 
 plan-relations-requires : tie.Need-plan-relations-requires
-plan-relations-requires c κs =
-    ready-read _ _ _ _ _ _ (c .before .before .before .before .before .before .before .before .before .read .ensures .0) (c .before .before
-    .before .before .before .before .before .enum-told .given .1) (c .before .before .before .before .before .before .before .before
-    .before .read .ensures .1) (c .before .before .before .before .before .before .room .ensures) (c .before .before .before .before
-    .enum-told2 .given .1)
+plan-relations-requires c κs = search ready-read
 
 same-length : tie.Need-same-length
 same-length c = search needs
@@ -49,13 +39,7 @@ same-length-2 : tie.Need-same-length-2
 same-length-2 c = search needs
 
 returns-3 : tie.Need-returns-3
-returns-3 c =
-    relations-came _ _ _ _ _ _ _ _ (c .before .before .before .before .before .before .before .before .before .before .before .before
-    .before .before .read .ensures .0) (c .before .before .before .before .before .before .before .before .before .before .before .before
-    .enum-told .given .1) (c .before .before .before .before .before .before .before .before .before .before .before .room .ensures) (c
-    .before .before .before .before .before .before .before .before .before .enum-told2 .given .1) (c .before .before .before .before
-    .plan-relations .ensures .0) (c .before .before .before .before .plan-relations .ensures .1 .0) (c .before .before .before .before
-    .plan-relations .ensures .1 .1)
+returns-3 c = search relations-answered
 
 pub plan-spec : {M : Type 1} → statement M
 plan-spec =

@@ -1,16 +1,9 @@
--- `planner::write_plan` meets its contract. Assumes nothing.
+-- `planner::write_plan` meets its contract: after r turns the set words and the sequences of the first r rules are written. Assumes nothing.
 use Rattle.planner.proofs.WriteLaws.{PlanTo, write-room, plan-start, plan-rule, plan-given, plan-fits, plan-turn, plan-finish, plan-kept}
 use borrow.Author.Needs.{needs}
-use native.Mathlib.Omega.{arith}
 use Prim.Native.Nat.{_-_}
 use Rattle.planner.proofs.write_plan.Statement.{statement}
 use Rattle.planner.proofs.write_plan.Tie as tie
-use Rattle.planner.proofs.write_plan.Reads as reads
-use Rattle.planner.proofs.write_plan.Lts as lts
-use Rattle.inducing.proofs.rule_at.Reads as rule-at-reads
-use Rattle.reader.proofs.word.Reads as word-reads
-use Rattle.sequencing.proofs.sequence.Reads as sequence-reads
-use Rattle.sequencing.proofs.write.Reads as write-reads
 
 abbrev Inv-loop : tie.InvT-loop
 Inv-loop words offsets sets rows plan₀ count r₀ plan r = PlanTo words offsets sets rows plan₀ plan r
@@ -25,17 +18,17 @@ word-requires : tie.Need-word-requires Inv-loop μ-loop
 word-requires c κs = search needs
 
 loop-holds : tie.Need-loop-holds Inv-loop μ-loop
-loop-holds c =
-    plan-start _ _ _ _ _ _ (c .before .before .before .before .before .before .before .before .before .pre) (c .before .before .before
-    .write .ensures)
+loop-holds c = search plan-start
 
 rule-at-requires : tie.Need-rule-at-requires Inv-loop μ-loop
-rule-at-requires c κs = plan-rule _ _ _ _ _ _ _ _ (c .before .loop .inv) (c .before .before .word .ensures .0) (c .loop-test .taken)
+rule-at-requires c κs = search plan-rule
 
 sequence-requires : tie.Need-sequence-requires Inv-loop μ-loop
 sequence-requires c κs =
-    (plan-given _ _ _ _ _ _ _ _ _ (c .before .before .before .loop .inv) (c .before .before .before .before .word .ensures .0) (c .before
-    .before .loop-test .taken) (c .before .rule-at .ensures), plan-fits _ _ _ _ _ _ _ (c .before .before .before .loop .inv))
+    let taken = c .before .before in
+    let turn = taken .before in
+    (search (plan-given, turn .loop .inv, turn .before .word .ensures .0, taken .loop-test .taken, c .before .rule-at .ensures),
+    search (plan-fits, turn .loop .inv))
 
 add-r : tie.Need-add-r Inv-loop μ-loop
 add-r c = search needs
@@ -45,18 +38,16 @@ loop-less c = search needs
 
 loop-again : tie.Need-loop-again Inv-loop μ-loop
 loop-again c =
-    plan-turn _ _ _ _ _ _ _ _ _ (c .before .before .before .before .before .before .loop .inv) (c .before .before .before .before .before
-    .before .before .word .ensures .0) (c .before .before .before .before .before .loop-test .taken) (c .before .before .sequence .ensures)
+    let written = c .before .before in
+    let taken = written .before .before .before in
+    let turn = taken .before in
+    search (plan-turn, turn .loop .inv, turn .before .word .ensures .0, taken .loop-test .taken, written .sequence .ensures)
 
 same-length : tie.Need-same-length Inv-loop μ-loop
-same-length c =
-    plan-kept _ _ _ _ _ _ _ _ (c .before .before .before .before .before .before .before .before .before .before .before .pre) (c .before
-    .before .before .before .before .write .ensures) (c .before .loop .inv)
+same-length c = search plan-kept
 
 returns : tie.Need-returns Inv-loop μ-loop
-returns c =
-    plan-finish _ _ _ _ _ _ _ _ _ (c .before .loop .inv) (c .before .before .word .ensures .0) (c .loop-test .left) (c .before .before
-    .before .before .before .write .ensures)
+returns c = search plan-finish
 
 pub write-plan-spec : {M : Type 1} → statement M
 write-plan-spec =

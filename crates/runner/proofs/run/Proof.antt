@@ -1,12 +1,9 @@
--- `runner::run` meets its contract. Assumes nothing.
+-- `runner::run` meets its contract: what planning refuses is refused, and where it accepts, what it wrote is a sound plan to run.
+-- Assumes nothing.
 use Rattle.runner.proofs.WholeLaws.{run-planned, run-refused, run-ran}
 use borrow.Author.Needs.{needs}
 use Rattle.runner.proofs.run.Statement.{statement}
 use Rattle.runner.proofs.run.Tie as tie
-use Rattle.runner.proofs.run.Reads as reads
-use Rattle.runner.proofs.run.Lts as lts
-use Rattle.planner.proofs.plan.Reads as plan-reads
-use Rattle.runner.proofs.run_planned.Reads as run-planned-reads
 
 plan-requires : tie.Need-plan-requires
 plan-requires c κs = search needs
@@ -21,20 +18,13 @@ same-length-2 : tie.Need-same-length-2
 same-length-2 c = search needs
 
 returns : tie.Need-returns
-returns c =
-    run-refused _ _ _ _ _ _ _ _ _ (c .before .before .before .before .before .before .before .plan .ensures .0) (c .before .before .before
-    .before .before .before .before .plan .ensures .1 .0) (c .before .before .before .before .before .before .before .plan .ensures .1 .1)
-    _ (c .before .planned .given .1)
+returns c = search run-refused
 
 enum-told : tie.Need-enum-told
 enum-told c = search needs
 
 run-planned-requires : tie.Need-run-planned-requires
-run-planned-requires c κs =
-    run-planned _ (c .before .before .before .before .before .before .before .before .before .before .before .before .before .before
-    .before .args .rows .now) (c .before .before .before .before .before .before .before .before .before .before .before .before .before
-    .before .before .args .plan .now) _ _ _ (c .before .before .before .before .before .before .before .before .plan .ensures .0) (c
-    .before .before .before .before .before .before .before .before .plan .ensures .1 .1) (c .before .before .enum-told .given .1)
+run-planned-requires c κs = search run-planned
 
 same-length-3 : tie.Need-same-length-3
 same-length-3 c = search needs
@@ -46,11 +36,7 @@ same-length-5 : tie.Need-same-length-5
 same-length-5 c = search needs
 
 returns-2 : tie.Need-returns-2
-returns-2 c =
-    run-ran _ _ _ _ _ _ _ _ _ (c .before .before .before .before .before .before .before .before .before .before .plan .ensures .0) (c
-    .before .before .before .before .before .before .before .before .before .before .plan .ensures .1 .0) (c .before .before .before
-    .before .before .before .before .before .before .before .plan .ensures .1 .1) _ _ _ (c .before .before .before .before .enum-told
-    .given .1) (c .before .run-planned .ensures .0) (c .before .run-planned .ensures .1)
+returns-2 c = search run-ran
 
 pub run-spec : {M : Type 1} → statement M
 run-spec =
