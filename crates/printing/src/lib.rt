@@ -3,6 +3,9 @@ use libc::STDOUT_FILENO;
 use refusals::Refusal;
 use running::Ran;
 
+ghost use mathlib.Core.Path.{_≡_};
+ghost use lib.IntN.{natAbs};
+
 // A word as it stands.
 pub fn word(text: &[u8]) {
     io::write_all(STDOUT_FILENO, text);
@@ -15,7 +18,9 @@ pub fn number(n: u64) {
 }
 
 // A value without its sign.
-fn magnitude(v: i32) -> u64 {
+fn magnitude(v: i32) -> u64
+    ensures { λ r. ⌜ r ≡ natAbs v ⌝ }
+{
     let wide = v as i64;
     if wide < 0 {
         return (0 - wide) as u64;
