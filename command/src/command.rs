@@ -1,0 +1,271 @@
+//! The command line: what is asked for, the file that it is asked of, and what is answered.
+
+use crate::check::{self, Unsound};
+use crate::cycle::{CIRCULAR, NOT_ORDERED};
+use crate::grammar::Grammar;
+use crate::limits;
+use crate::proved::{self, Planned, Refusal};
+use crate::table::Table;
+use crate::text::{self, Fault};
+use crate::words::{self, Bytes};
+use crate::{dot, explain, list, refusal};
+use std::ffi::{OsStr, OsString};
+use std::io::Read as _;
+
+/// What the command prints and how it ends.
+#[derive(Debug, PartialEq, Eq)]
+pub struct Outcome {
+    /// For standard output.
+    pub output: Vec<u8>,
+    /// For standard error.
+    pub message: String,
+    pub status: u8,
+}
+
+/// The exit statuses: accepted; refused by the proved code; not read, not written, or not understood.
+pub const ACCEPTED: u8 = 0;
+pub const REFUSED: u8 = 1;
+pub const UNREAD: u8 = 2;
+
+const USAGE: &str = "\
+usage: skarnuth words [--decimal] FILE
+       skarnuth list [--words | --decimal] FILE
+       skarnuth explain [--words | --decimal] FILE
+       skarnuth dot [--words | --decimal] [--rule NUMBER] FILE
+       skarnuth help | version
+";
+
+const HELP: &str = "
+  words     turns a readable table into words: little-endian bytes, or with --decimal numbers
+  list      lists the plan of a table, or why there is none
+  explain   says the plan in words: the visits of each symbol, the sequence of each rule
+  dot       draws the dependencies of each rule, or of one, for graphviz
+  help      prints this
+  version   prints the version
+
+FILE is a readable table (docs/MANUAL.md); - is standard input. For list, explain and dot
+--words says that it has words as little-endian bytes, --decimal that it has them in decimal.
+
+Exit status: 0 accepted, 1 refused, 2 for what could not be read or written.
+";
+
+impl Outcome {
+    fn accepted(output: impl Into<Vec<u8>>) -> Outcome {
+        Outcome { output: output.into(), message: String::new(), status: ACCEPTED }
+    }
+
+    fn refused(output: impl Into<Vec<u8>>, message: String) -> Outcome {
+        Outcome { output: output.into(), message, status: REFUSED }
+    }
+
+    fn unread(message: String) -> Outcome {
+        Outcome { output: Vec::new(), message, status: UNREAD }
+    }
+}
+
+#[derive(Clone, Copy, PartialEq, Eq)]
+enum Task {
+    Words,
+    List,
+    Explain,
+    Dot,
+}
+
+/// What a file holds.
+#[derive(Clone, Copy, PartialEq, Eq)]
+enum Form {
+    Readable,
+    Words,
+    Decimal,
+}
+
+struct Request {
+    task: Task,
+    form: Form,
+    rule: Option<usize>,
+    file: OsString,
+}
+
+/// Runs the command on the words of its command line.
+pub fn run(line: &[OsString]) -> Outcome {
+    match line.first().and_then(|word| word.to_str()) {
+        Some("help" | "--help" | "-h") if line.len() == 1 => Outcome::accepted(format!("{USAGE}{HELP}")),
+        Some("version" | "--version") if line.len() == 1 => Outcome::accepted(format!("skarnuth {}\n", env!("SKARNUTH_VERSION"))),
+        _ => match request(line) {
+            Ok(request) => answered(&request),
+            Err(why) => Outcome::unread(format!("skarnuth: {why}\n{USAGE}")),
+        },
+    }
+}
+
+// The command line.
+
+fn request(line: &[OsString]) -> Result<Request, String> {
+    let task = match line.first().map(|word| word.to_string_lossy()).as_deref() {
+        None => return Err("what to do is missing".to_string()),
+        Some("words") => Task::Words,
+        Some("list") => Task::List,
+        Some("explain") => Task::Explain,
+        Some("dot") => Task::Dot,
+        Some("help" | "--help" | "-h" | "version" | "--version") => return Err("help and version take no more words".to_string()),
+        Some(other) => return Err(format!("no command {}", plain(other))),
+    };
+    let mut form = None;
+    let mut rule = None;
+    let mut files = Vec::new();
+    let mut words = line[1..].iter();
+    let mut options = true;
+    while let Some(word) = words.next() {
+        match word.to_str() {
+            Some("--") if options => options = false,
+            Some("--decimal") if options => once(&mut form, Form::Decimal, "--decimal")?,
+            Some("--words") if options && task != Task::Words => once(&mut form, Form::Words, "--words")?,
+            Some("--rule") if options && task == Task::Dot => once(&mut rule, rule_number(words.next())?, "--rule")?,
+            Some(other) if options && other.len() > 1 && other.starts_with('-') => return Err(format!("no option {} here", plain(other))),
+            _ => files.push(word.clone()),
+        }
+    }
+    match <[OsString; 1]>::try_from(files) {
+        Ok([file]) => Ok(Request { task, form: form.unwrap_or(Form::Readable), rule, file }),
+        Err(files) if files.is_empty() => Err("the file is missing".to_string()),
+        Err(files) => Err(format!("one file at a time, not {}", files.len())),
+    }
+}
+
+fn once<T>(option: &mut Option<T>, value: T, name: &str) -> Result<(), String> {
+    match option.replace(value) {
+        None => Ok(()),
+        Some(_) => Err(format!("{name} comes after another choice of the same kind")),
+    }
+}
+
+fn rule_number(word: Option<&OsString>) -> Result<usize, String> {
+    let text = word.ok_or("--rule takes the number of a rule")?.to_string_lossy();
+    let last = limits::RULES as i64 - 1;
+    let number = text::whole(&text, &(0..=last)).map_err(|why| format!("--rule takes the number of a rule, 0 to {last}; {} {why}", plain(&text)))?;
+    Ok(number as usize)
+}
+
+/// A text without characters that move the cursor.
+fn plain(text: &str) -> String {
+    text.chars().map(|c| if c.is_control() { '\u{fffd}' } else { c }).collect()
+}
+
+// The file.
+
+/// The name that messages have for a file.
+fn shown(file: &OsStr) -> String {
+    if file == "-" { "standard input".to_string() } else { plain(&file.to_string_lossy()) }
+}
+
+/// The bytes of a file, up to a limit and one more.
+fn bytes(file: &OsStr, most: usize) -> Result<Vec<u8>, Outcome> {
+    let mut bytes = Vec::new();
+    let limit = most as u64 + 1;
+    let read = if file == "-" {
+        std::io::stdin().take(limit).read_to_end(&mut bytes)
+    } else {
+        std::fs::File::open(file).and_then(|open| open.take(limit).read_to_end(&mut bytes))
+    };
+    match read {
+        Ok(_) => Ok(bytes),
+        Err(error) => Err(Outcome::unread(format!("skarnuth: {} cannot be read: {error}\n", shown(file)))),
+    }
+}
+
+fn answered(request: &Request) -> Outcome {
+    let form = if request.task == Task::Words { Form::Readable } else { request.form };
+    let found = match form {
+        Form::Readable => readable(request),
+        Form::Words => given_as_bytes(request),
+        Form::Decimal => given_in_decimal(request),
+    };
+    found.unwrap_or_else(|unread| unread)
+}
+
+/// A readable table, converted and checked.
+fn readable(request: &Request) -> Result<Outcome, Outcome> {
+    let name = shown(&request.file);
+    let bytes = bytes(&request.file, limits::TEXT)?;
+    if bytes.len() > limits::TEXT {
+        return Err(Outcome::unread(format!("skarnuth: {name} is longer than {} bytes: no readable table\n", limits::TEXT)));
+    }
+    let (source, read) = text::read(&name, &bytes);
+    let reading = read.map_err(|faults| Outcome::unread(text::shown(&source, &faults)))?;
+    let table = check::conversion(&bytes, &reading.words, &reading.symbols).map_err(|unsound| {
+        let why = format!("skarnuth's own check of this conversion failed, nothing was written: {unsound}");
+        let at = match unsound {
+            Unsound::Refused(refusal) => reading.places.get(refusal.place).copied(),
+            _ => None,
+        };
+        Outcome::unread(text::shown(&source, &[Fault::new(at.unwrap_or(source.end()), why)]))
+    })?;
+    if request.task == Task::Words {
+        let decimal = request.form == Form::Decimal;
+        return Ok(Outcome::accepted(if decimal { words::to_decimal(&reading.words).into_bytes() } else { words::to_bytes(&reading.words) }));
+    }
+    let grammar = Grammar::named(table, &reading);
+    Ok(planned(request, &grammar, &proved::plan(&reading.words)))
+}
+
+fn given_as_bytes(request: &Request) -> Result<Outcome, Outcome> {
+    match words::from_bytes(&bytes(&request.file, limits::LOOKED_AT)?) {
+        Bytes::Words(words) => given(request, &words),
+        Bytes::Odd(whole) => {
+            let told = format!("The bytes are {} and a half words: word {whole} has one byte of two.\n", whole);
+            Ok(not_planned(request, Refusal { number: 1, place: whole, second: 0 }, &told))
+        }
+    }
+}
+
+fn given_in_decimal(request: &Request) -> Result<Outcome, Outcome> {
+    let name = shown(&request.file);
+    let bytes = bytes(&request.file, limits::TEXT)?;
+    let words = words::from_decimal(&bytes).map_err(|(line, why)| Outcome::unread(format!("{name}:{line}: {why}\n")))?;
+    given(request, &words)
+}
+
+/// Words that were given as words: the proved reader alone judges them.
+fn given(request: &Request, words: &[u16]) -> Result<Outcome, Outcome> {
+    let plan = proved::plan(words);
+    if let Some(refusal) = plan.refusal.filter(|refusal| refusal.number < CIRCULAR) {
+        return Ok(not_planned(request, refusal, &refusal::of_words(words, refusal)));
+    }
+    let table = Table::of(words).ok_or_else(|| Outcome::unread(format!("skarnuth: {} cannot be taken apart\n", shown(&request.file))))?;
+    Ok(planned(request, &Grammar::numbered(table), &plan))
+}
+
+// The answer.
+
+fn planned(request: &Request, grammar: &Grammar, planned: &Planned) -> Outcome {
+    let rules = grammar.table.rules.len();
+    if let Some(rule) = request.rule.filter(|&rule| rule >= rules) {
+        return Outcome::unread(format!("skarnuth: {} has rules 0 to {}; --rule {rule} is none\n", shown(&request.file), rules - 1));
+    }
+    let Some(refusal) = planned.refusal else {
+        return Outcome::accepted(match request.task {
+            Task::List | Task::Words => list::listing(&grammar.table, planned),
+            Task::Explain => format!("accepted: {}, {}\n\n{}", counted(grammar.symbols.len(), "symbol"), counted(rules, "rule"), explain::explained(grammar, planned)),
+            Task::Dot => dot::drawn(grammar, planned, request.rule),
+        });
+    };
+    let told = refusal::of_planning(grammar, planned, refusal);
+    if request.task == Task::Dot && [CIRCULAR, NOT_ORDERED].contains(&refusal.number) {
+        return Outcome::refused(dot::drawn(grammar, planned, request.rule), format!("{}: {refusal}\n{told}", shown(&request.file)));
+    }
+    not_planned(request, refusal, &told)
+}
+
+/// A refusal: `list` prints it as the listing program does, and the rest on standard error.
+fn not_planned(request: &Request, refusal: Refusal, told: &str) -> Outcome {
+    let name = shown(&request.file);
+    match request.task {
+        Task::List | Task::Words => Outcome::refused(format!("{refusal}\n"), format!("{name}: {told}")),
+        Task::Explain => Outcome::refused(format!("{refusal}\n{told}"), String::new()),
+        Task::Dot => Outcome::refused(Vec::new(), format!("{name}: {refusal}\n{told}")),
+    }
+}
+
+fn counted(n: usize, what: &str) -> String {
+    format!("{n} {what}{}", if n == 1 { "" } else { "s" })
+}

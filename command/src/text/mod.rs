@@ -1,0 +1,26 @@
+//! The strict reader of the readable form (its grammar is in docs/MANUAL.md). Whatever it does not understand in one way only is a fault.
+
+mod fault;
+mod meaning;
+mod number;
+mod source;
+mod syntax;
+
+pub use fault::{shown, Fault};
+pub use meaning::{Named, Reading, RuleLines};
+pub use number::whole;
+pub use source::{Source, Span};
+
+/// Reads a readable table: its reading, or the faults.
+pub fn read(name: &str, bytes: &[u8]) -> (Source, Result<Reading, Vec<Fault>>) {
+    let (source, mut faults) = Source::of(name, bytes);
+    // Words are told apart only in lines whose bytes are good.
+    let reading = if faults.is_empty() { understood(&source, &mut faults) } else { None };
+    let result = reading.ok_or(faults);
+    (source, result)
+}
+
+fn understood(source: &Source, faults: &mut Vec<Fault>) -> Option<Reading> {
+    let lines: Vec<_> = (0..source.lines.len()).map(|at| syntax::line(source, at, faults)).collect();
+    meaning::meaning(source, &lines, faults)
+}
