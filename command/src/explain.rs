@@ -1,6 +1,6 @@
 //! A plan in words: what each visit of a symbol carries, and what is done at a node of each rule.
 
-use crate::grammar::Grammar;
+use crate::grammar::{Grammar, NUMBERED};
 use crate::limits::{ATTRIBUTES, FIRST_LEAVE, FIRST_VISIT};
 use crate::list::visits;
 use crate::proved::Planned;
@@ -9,7 +9,7 @@ use std::fmt::Write as _;
 pub fn explained(grammar: &Grammar, planned: &Planned) -> String {
     let mut out = String::new();
     if grammar.is_numbered() {
-        out += "Names are numbers: n1 is nonterminal 1, t2 terminal 2, a0 attribute 0.\n\n";
+        out = format!("{NUMBERED}\n");
     }
     for x in 0..grammar.symbols.len() {
         out += &symbol(grammar, planned, x);

@@ -4,6 +4,9 @@ use crate::limits;
 use crate::table::{place, Table};
 use crate::text::{Named, Reading, RuleLines};
 
+/// What the names of a table without a text are.
+pub const NUMBERED: &str = "Names are numbers: n1 is nonterminal 1, t2 terminal 2, a0 attribute 0.\n";
+
 pub struct Grammar {
     pub table: Table,
     pub symbols: Vec<Named>,
@@ -17,7 +20,7 @@ impl Grammar {
         Grammar { table, symbols: reading.symbols.clone(), lines: Some(reading.rules.clone()) }
     }
 
-    /// With names made of numbers: n1 is nonterminal 1, t2 terminal 2, a0 attribute 0.
+    /// With names made of numbers.
     pub fn numbered(table: Table) -> Grammar {
         let symbols = numbers(&table);
         Grammar { table, symbols, lines: None }

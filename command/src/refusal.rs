@@ -1,7 +1,7 @@
 //! A refusal in the writer's terms: which word or attribute, what was expected there, and for 9 and 10 the whole cycle.
 
 use crate::cycle::{cycle, Cycle, Unheld, CIRCULAR, NOT_ORDERED};
-use crate::grammar::Grammar;
+use crate::grammar::{Grammar, NUMBERED};
 use crate::proved::{Planned, Refusal};
 use crate::relations::{Arc, Reason};
 use crate::role::{role, Role};
@@ -86,6 +86,9 @@ pub fn of_planning(grammar: &Grammar, planned: &Planned, refusal: Refusal) -> St
         ),
         _ => return format!("{refusal}\n"),
     };
+    if grammar.is_numbered() {
+        out += NUMBERED;
+    }
     match cycle(&grammar.table, planned, refusal) {
         Ok(cycle) => out += &shown(grammar, &cycle),
         Err(why) => out += &not_shown(grammar, &why),

@@ -1,6 +1,7 @@
 //! What a readable table means: its names are looked up, document 01's rules are held at the line, and the words are laid out.
 
 use super::fault::Fault;
+use super::number::whole;
 use super::source::{Source, Span, Word};
 use super::syntax::{self, nearest, Argument, Line};
 use crate::limits;
@@ -104,7 +105,7 @@ impl<'a> Reader<'a, '_> {
         for (at, line) in lines.iter().enumerate() {
             match line {
                 Line::Start(name) => self.start(*name),
-                Line::Symbol(symbol) => self.symbol(symbol),
+                Line::Symbol(symbol) => self.symbol(at, symbol),
                 Line::Unknown => self.unread.extend(self.source.words(at).iter().map(|w| w.text)),
                 _ => {}
             }
@@ -120,8 +121,11 @@ impl<'a> Reader<'a, '_> {
         }
     }
 
-    fn symbol(&mut self, line: &syntax::Symbol<'a>) {
-        let Some(name) = line.name else { return };
+    fn symbol(&mut self, at: usize, line: &syntax::Symbol<'a>) {
+        let Some(name) = line.name else {
+            self.unread.extend(self.source.words(at).iter().map(|w| w.text));
+            return;
+        };
         if let Some(first) = self.symbols.iter().find(|s| s.name.text == name.text) {
             let first = first.name.at;
             self.faults.push(Fault::new(name.at, format!("`{}` is declared a second time", name.text)).beside(vec![first]));
@@ -302,6 +306,9 @@ impl<'a> Reader<'a, '_> {
     /// How to use a number where only an attribute may stand.
     fn carried(&self, r: usize, line: &syntax::Function<'a>, number: &str) -> String {
         const COPY: usize = 1;
+        if let Err(why) = whole(number, &limits::CONSTANTS) {
+            return format!("an argument is an attribute, SYMBOL.ATTRIBUTE; `{number}` {why}");
+        }
         if line.operation.is_some_and(|(op, _)| op == COPY) {
             return format!("`{number}` is a number, and copy takes an attribute; for a constant write: const {number}");
         }

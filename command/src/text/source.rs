@@ -36,7 +36,7 @@ impl Source {
             return (source, vec![fault]);
         }
         let mut faults = Vec::new();
-        let mut ends = LineEnds { first: None };
+        let mut ends = LineEnds { first: None, told: false };
         let mut rest = bytes;
         while !rest.is_empty() || source.lines.is_empty() {
             let (line, after, ended) = match rest.iter().position(|&b| b == b'\n') {
@@ -99,19 +99,20 @@ fn bad_byte(line: usize, bytes: &[u8]) -> Option<Fault> {
     broken.map(|from| Fault::new(Span { line, from, to: from + 1 }, format!("byte {} is not UTF-8 here", bytes[from])))
 }
 
-/// The kind of line end that the file began with: whether it has a carriage return, and the line.
+/// The kind of line end that the file began with: whether it has a carriage return. A file that mixes them is told so once.
 struct LineEnds {
     first: Option<bool>,
+    told: bool,
 }
 
 impl LineEnds {
     /// The first line that ends otherwise than the lines before it.
     fn mixed(&mut self, line: usize, length: usize, returned: bool) -> Option<Fault> {
         let first = *self.first.get_or_insert(returned);
-        if first == returned {
+        if first == returned || self.told {
             return None;
         }
-        self.first = Some(returned);
+        self.told = true;
         let kind = |returned| if returned { "CR LF" } else { "LF" };
         let text = format!("this line ends in {}, those before it in {}; use one kind of line end", kind(returned), kind(first));
         Some(Fault::new(Span { line, from: length, to: length }, text))

@@ -246,8 +246,17 @@ impl<'a> Reader<'a, '_> {
         let (name, takes, called) = OPERATIONS[op];
         if given.len() != takes {
             let at = given.get(takes).map_or(self.end, |extra| extra.at);
-            let what = if op == CONST { called.to_string() } else { format!("{takes} argument{} ({called})", if takes == 1 { "" } else { "s" }) };
-            self.fault(at, format!("{name} takes {what}; here {} given", if given.len() == 1 { "is 1".to_string() } else { format!("are {}", given.len()) }));
+            let what = match (op, takes) {
+                (CONST, _) => called.to_string(),
+                (_, 1) => format!("1 argument ({called})"),
+                _ => format!("{takes} arguments ({called})"),
+            };
+            let here = match given.len() {
+                0 => "is none".to_string(),
+                1 => "is 1".to_string(),
+                n => format!("are {n}"),
+            };
+            self.fault(at, format!("{name} takes {what}; here {here}"));
         }
         given.iter().take(takes).filter_map(|word| self.argument(op, *word)).collect()
     }
@@ -291,17 +300,18 @@ fn read_occurrence(text: &str) -> Option<(&str, Option<usize>, &str)> {
 }
 
 fn no_occurrence(text: &str) -> String {
-    let form = "an occurrence is SYMBOL.ATTRIBUTE, or SYMBOL#1.ATTRIBUTE where the symbol stands several times in the rule";
+    let form = "expected SYMBOL.ATTRIBUTE, or SYMBOL#1.ATTRIBUTE where the symbol stands several times in the rule";
     let Some((before, attribute)) = text.split_once('.') else {
         return format!("`{text}` names no attribute: {form}");
     };
     if let Some((symbol, digits)) = before.split_once('#').filter(|(symbol, _)| is_name(symbol)) {
         if let Err(why) = whole(digits, &POSITIONS) {
-            return format!("`{text}`: behind {symbol}# stands a number from 1 to {}, counted from the left side on; `{digits}` {why}", POSITIONS.end());
+            let why = if digits.is_empty() { "it is missing".to_string() } else { format!("`{digits}` {why}") };
+            return format!("`{text}`: behind {symbol}# stands a number from 1 to {}, counted from the left side on; {why}", POSITIONS.end());
         }
     }
     let wrong = [before.split('#').next().unwrap_or(""), attribute].into_iter().find(|part| !is_name(part)).unwrap_or(text);
-    format!("`{text}`: {}; {form}", not_a_name(wrong))
+    format!("`{text}`: {}", not_a_name(wrong))
 }
 
 fn no_operation(text: &str) -> String {
@@ -320,7 +330,8 @@ fn not_a_name(text: &str) -> String {
     if text.is_empty() {
         return "a name is missing".to_string();
     }
-    format!("`{text}` is no name: a name has letters a to z or A to Z, digits and underscores, and does not begin with a digit")
+    let odd = text.chars().find(|c| !c.is_ascii()).map_or(String::new(), |c| format!(" (it has the character U+{:04X})", c as u32));
+    format!("`{text}` is no name{odd}: a name has letters a to z and A to Z, digits and underscores, no digit first")
 }
 
 /// The name that a mistyped one is nearest to: of the same letters in another case, or at most two letters away.
