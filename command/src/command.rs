@@ -212,7 +212,7 @@ fn given_as_bytes(request: &Request) -> Result<Outcome, Outcome> {
     match words::from_bytes(&bytes(&request.file, limits::LOOKED_AT)?) {
         Bytes::Words(words) => given(request, &words),
         Bytes::Odd(whole) => {
-            let told = format!("The bytes are {} and a half words: word {whole} has one byte of two.\n", whole);
+            let told = format!("The count of bytes is odd: word {whole} has one byte of two.\n");
             Ok(not_planned(request, Refusal { number: 1, place: whole, second: 0 }, &told))
         }
     }

@@ -1,5 +1,5 @@
-//! The cycle behind a refusal 9 or 10: a shortest one through the occurrence that the proved code names. Every arc of it, and every arc of the
-//! paths that induce one of its arcs, is held against the rows that the proved code left.
+//! The cycle behind a refusal 9 or 10: a shortest one through the occurrence that the proved code names, of arcs that were induced as early as
+//! possible. Every arc of it, and every arc of the paths that induce one of its arcs, is held against the rows that the proved code left.
 
 use crate::proved::{Planned, Refusal};
 use crate::relations::{self, Arc, Arcs, Induced, Reason, Sets};
@@ -35,10 +35,18 @@ pub fn cycle(table: &Table, planned: &Planned, refusal: Refusal) -> Result<Cycle
     }
     let induced = relations::induced(table);
     let sets = (refusal.number == NOT_ORDERED).then(|| relations::sets(table, &induced));
-    let arcs = Arcs::of(table, rule, &induced, sets.as_ref()).path(named, named).ok_or(Unheld::NoCycle)?;
+    let arcs = shortest(table, &induced, sets.as_ref(), rule, named).ok_or(Unheld::NoCycle)?;
     let cycle = Cycle { rule, arcs, induced, sets };
     cycle.held(table, planned)?;
     Ok(cycle)
+}
+
+/// A shortest cycle. After 9 there may be many induced arcs that come from cycles themselves, so those of fewer rounds are tried first.
+fn shortest(table: &Table, induced: &Induced, sets: Option<&Sets>, rule: usize, named: usize) -> Option<Vec<Arc>> {
+    let all = relations::rounds(induced);
+    let first = if sets.is_some() { all } else { 0 };
+    let arcs = |last| Arcs::of(table, rule, induced, last, sets);
+    (first..=all).find_map(|last| arcs(last).without_loops().path(named, named)).or_else(|| arcs(all).path(named, named))
 }
 
 impl Cycle {

@@ -75,7 +75,7 @@ impl Drawer<'_> {
 
     /// What is drawn: of the order of sets only the arcs between neighbouring sets, whose paths are the same, and what a cycle is made of.
     fn arcs(&self, rule: usize) -> Vec<Arc> {
-        let arcs = Arcs::of(&self.grammar.table, rule, &self.induced, self.sets.as_ref());
+        let arcs = Arcs::of(&self.grammar.table, rule, &self.induced, relations::rounds(&self.induced), self.sets.as_ref());
         let wanted = |arc: &Arc| arc.reason != Reason::Sets || self.neighbours(rule, arc) || self.red(rule, arc);
         arcs.all().filter(|arc| wanted(arc) && self.planned.path(rule, arc.from, arc.to)).collect()
     }

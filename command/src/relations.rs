@@ -23,15 +23,16 @@ pub struct Arc {
     pub reason: Reason,
 }
 
-/// Where an arc between two attributes of a symbol comes from: a rule and a path in it.
+/// Where an arc between two attributes of a symbol comes from: a rule and a path in it, and the round in which it was found, from 1.
 #[derive(Debug)]
 pub struct Origin {
+    pub round: usize,
     pub rule: usize,
     pub path: Vec<Arc>,
 }
 
-/// IDS: for a symbol and two of its attributes, where the arc comes from. A path uses only arcs that were found before it, so that following the
-/// origins always ends at functions.
+/// IDS: for a symbol and two of its attributes, where the arc comes from. A path uses only arcs of earlier rounds, so that following the origins
+/// always ends at functions.
 pub type Induced = BTreeMap<(usize, usize, usize), Origin>;
 
 /// The set number of each attribute of each symbol; 0 for terminals.
@@ -47,8 +48,8 @@ pub struct Arcs<'a> {
 }
 
 impl<'a> Arcs<'a> {
-    /// DP and the induced arcs; and, where sets are given, those from higher to lower sets at nonterminals.
-    pub fn of(table: &'a Table, rule: usize, induced: &Induced, sets: Option<&Sets>) -> Arcs<'a> {
+    /// DP and the induced arcs of the rounds up to one; and, where sets are given, those from higher to lower sets at nonterminals.
+    pub fn of(table: &'a Table, rule: usize, induced: &Induced, last: usize, sets: Option<&Sets>) -> Arcs<'a> {
         let none = [0; OCCURRENCES];
         let mut arcs = Arcs { table, rule, functions: none, induced: none, sets: none };
         for function in &table.rules[rule].functions {
@@ -57,7 +58,8 @@ impl<'a> Arcs<'a> {
             }
         }
         for (position, &x) in table.rules[rule].symbols.iter().enumerate() {
-            for &(_, a, b) in induced.range((x, 0, 0)..(x + 1, 0, 0)).map(|(arc, _)| arc) {
+            let found = induced.range((x, 0, 0)..(x + 1, 0, 0)).filter(|(_, origin)| origin.round <= last);
+            for &(_, a, b) in found.map(|(arc, _)| arc) {
                 arcs.induced[occurrence(position, a)] |= 1 << occurrence(position, b);
             }
             if let Some(sets) = sets.filter(|_| !table.symbols[x].terminal) {
@@ -73,6 +75,12 @@ impl<'a> Arcs<'a> {
                 self.sets[occurrence(position, a)] |= 1 << occurrence(position, b);
             }
         }
+    }
+
+    /// Without the induced arcs from an attribute to itself, which say of a cycle only that there is one.
+    pub fn without_loops(mut self) -> Arcs<'a> {
+        self.induced.iter_mut().enumerate().for_each(|(o, row)| *row &= !(1 << o));
+        self
     }
 
     /// The arc from one occurrence to another, by its simplest reason.
@@ -139,10 +147,12 @@ impl<'a> Arcs<'a> {
 /// The least relations: rounds, each from the arcs of the rounds before, until no rule has a new path.
 pub fn induced(table: &Table) -> Induced {
     let mut induced = Induced::new();
+    let mut number = 0;
     loop {
+        number += 1;
         let mut found = Vec::new();
         for rule in 0..table.rules.len() {
-            round(table, rule, &induced, &mut found);
+            round(table, rule, &induced, number, &mut found);
         }
         let before = induced.len();
         for (arc, origin) in found {
@@ -155,18 +165,23 @@ pub fn induced(table: &Table) -> Induced {
 }
 
 /// The paths of a rule between attributes of one occurrence that are not arcs of its symbol yet.
-fn round(table: &Table, rule: usize, induced: &Induced, found: &mut Vec<((usize, usize, usize), Origin)>) {
-    let arcs = Arcs::of(table, rule, induced, None);
+fn round(table: &Table, rule: usize, induced: &Induced, number: usize, found: &mut Vec<((usize, usize, usize), Origin)>) {
+    let arcs = Arcs::of(table, rule, induced, number, None);
     for (position, a) in table.rules[rule].occurrences(table) {
         let x = table.rules[rule].symbols[position];
         let start = occurrence(position, a);
         let by = arcs.reached(start);
         for b in (0..table.symbols[x].attributes).filter(|&b| !induced.contains_key(&(x, a, b))) {
             if let Some(path) = arcs.back(&by, start, occurrence(position, b)) {
-                found.push(((x, a, b), Origin { rule, path }));
+                found.push(((x, a, b), Origin { round: number, rule, path }));
             }
         }
     }
+}
+
+/// The last round that found an arc.
+pub fn rounds(induced: &Induced) -> usize {
+    induced.values().map(|origin| origin.round).max().unwrap_or(0)
 }
 
 /// The sets, counted from the end: set k is the largest collection of unplaced attributes of its class whose successors are all in sets 1 to k.
