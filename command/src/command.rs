@@ -173,6 +173,15 @@ fn bytes(file: &OsStr, most: usize) -> Result<Vec<u8>, Outcome> {
     }
 }
 
+/// The bytes of a text, which has an end.
+fn whole_text(file: &OsStr, otherwise: &str) -> Result<Vec<u8>, Outcome> {
+    let bytes = bytes(file, limits::TEXT)?;
+    if bytes.len() > limits::TEXT {
+        return Err(Outcome::unread(format!("skarnuth: {} is longer than {} bytes: {otherwise}\n", shown(file), limits::TEXT)));
+    }
+    Ok(bytes)
+}
+
 fn answered(request: &Request) -> Outcome {
     let form = if request.task == Task::Words { Form::Readable } else { request.form };
     let found = match form {
@@ -186,10 +195,7 @@ fn answered(request: &Request) -> Outcome {
 /// A readable table, converted and checked.
 fn readable(request: &Request) -> Result<Outcome, Outcome> {
     let name = shown(&request.file);
-    let bytes = bytes(&request.file, limits::TEXT)?;
-    if bytes.len() > limits::TEXT {
-        return Err(Outcome::unread(format!("skarnuth: {name} is longer than {} bytes: no readable table\n", limits::TEXT)));
-    }
+    let bytes = whole_text(&request.file, "no readable table")?;
     let (source, read) = text::read(&name, &bytes);
     let reading = read.map_err(|faults| Outcome::unread(text::shown(&source, &faults)))?;
     let table = check::conversion(&bytes, &reading.words, &reading.symbols).map_err(|unsound| {
@@ -220,7 +226,7 @@ fn given_as_bytes(request: &Request) -> Result<Outcome, Outcome> {
 
 fn given_in_decimal(request: &Request) -> Result<Outcome, Outcome> {
     let name = shown(&request.file);
-    let bytes = bytes(&request.file, limits::TEXT)?;
+    let bytes = whole_text(&request.file, "no words in decimal")?;
     let words = words::from_decimal(&bytes).map_err(|(line, why)| Outcome::unread(format!("{name}:{line}: {why}\n")))?;
     given(request, &words)
 }
