@@ -8,7 +8,7 @@ fail() { echo "build.sh: $*" >&2; exit 1; }
 
 tree="$folder/a tree"
 mkdir -p "$tree/bin" "$tree/tools" "$tree/command/src" "$tree/crates/one/src" "$tree/crates/two/must-fail" "$tree/crates/three" "$tree/crates/exports" "$tree/crates/listing"
-cp "$root/bin/build" "$root/bin/list" "$root/bin/words" "$tree/bin/"
+cp "$root/bin/build" "$root/bin/skarnuth" "$root/bin/list" "$root/bin/words" "$tree/bin/"
 printf '# crates\none:\ntwo: one\nthree:\nexports: two\nlisting: io one\n' > "$tree/crates.txt"
 for file in VERSION command/Cargo.toml command/build.rs command/src/main.rs crates/one/src/lib.rt crates/two/lib.rt crates/two/must-fail/x.edit crates/three/lib.rt crates/exports/lib.rt crates/listing/main.rt; do
     echo "$file" > "$tree/$file"

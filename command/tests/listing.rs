@@ -67,3 +67,39 @@ fn lengths_around_what_is_looked_at() {
         same(&bytes, None);
     }
 }
+
+/// What MANUAL says of the listing program: its messages, that its status is always 0, and the stack that it wants.
+#[test]
+fn what_the_manual_says_of_the_listing_program() {
+    let run = |script: &str| {
+        let out = Command::new("sh").current_dir(root()).args(["-c", script, "target/bin/listing"]).output().expect("sh starts");
+        (out.status.code(), text(&out.stdout), text(&out.stderr))
+    };
+    let unreadable = (Some(0), String::new(), "listing: standard input cannot be read\n".to_string());
+    assert_eq!(run("exec \"$0\" < examples"), unreadable);
+    assert_eq!(run("exec \"$0\" <&-"), unreadable);
+    let unwritable = (Some(0), String::new(), "listing: standard output cannot be written\n".to_string());
+    assert_eq!(run("exec \"$0\" < VERSION > /dev/full"), unwritable);
+    assert_eq!(run("exec \"$0\" < VERSION >&-"), unwritable);
+    assert_eq!(run("printf abc | \"$0\""), (Some(0), "refused 1 1 0\n".to_string(), String::new()));
+    let long = std::env::temp_dir().join(format!("skarnuth-{}.words", std::process::id()));
+    std::fs::write(&long, longest()).expect("a file");
+    let (status, listed, _) = run(&format!("ulimit -s 256; exec \"$0\" < {}", long.display()));
+    std::fs::remove_file(&long).expect("removed");
+    assert_eq!((status, listed.lines().count()), (Some(0), 67), "the longest table, in 256 KiB of stack");
+    assert_eq!(run("ulimit -s 128; exec \"$0\" < VERSION"), (None, String::new(), String::new()), "a signal");
+}
+
+/// The longest ordered table: 64 rules of length 7 in which every occurrence is defined, all but one of a rule by four arguments.
+fn longest() -> Vec<u8> {
+    let mut words: Vec<u16> = vec![32, 64, 0, 0, 8, 0, 0, 8, 255];
+    words.extend([1, 0, 0].repeat(30));
+    let order: Vec<u16> = (8..64).chain(0..8).collect();
+    for _ in 0..64 {
+        words.extend([0, 7, 1, 1, 1, 1, 1, 1, 1, 64, order[0], 0, 0]);
+        for k in 1..64 {
+            words.extend([order[k], 8, order[k - 1], order[k / 2], order[k / 3], order[k * 3 / 4]]);
+        }
+    }
+    to_bytes(&words)
+}
