@@ -225,9 +225,8 @@ fn given_as_bytes(request: &Request) -> Result<Outcome, Outcome> {
 }
 
 fn given_in_decimal(request: &Request) -> Result<Outcome, Outcome> {
-    let name = shown(&request.file);
     let bytes = whole_text(&request.file, "no words in decimal")?;
-    let words = words::from_decimal(&bytes).map_err(|(line, why)| Outcome::unread(format!("{name}:{line}: {why}\n")))?;
+    let words = words::from_decimal(&shown(&request.file), &bytes).map_err(Outcome::unread)?;
     given(request, &words)
 }
 

@@ -34,4 +34,4 @@ pub const FIRST_LEAVE: usize = 128;
 /// The bytes of a file of words that are looked at, as the listing program does.
 pub const LOOKED_AT: usize = 65_536;
 /// The bytes of a text that are read. Document 01 has no such limit: it is here so that an endless file ends.
-pub const TEXT: usize = 16 * 1024 * 1024;
+pub const TEXT: usize = 4 * 1024 * 1024;

@@ -1,7 +1,7 @@
 //! Words in a file: as little-endian bytes, or in decimal.
 
 use crate::limits;
-use crate::text::whole;
+use crate::text::{quoted, shown, whole, Fault, Source};
 
 /// What the bytes of a file of words are.
 pub enum Bytes {
@@ -28,20 +28,22 @@ pub fn to_decimal(words: &[u16]) -> String {
 }
 
 /// Words in decimal, 0 to 65535, with blanks or line ends between them. A bar may stand alone and a comma behind a number, to help the eye.
-/// An error is the line, the word and what is wrong with it.
-pub fn from_decimal(bytes: &[u8]) -> Result<Vec<u16>, (usize, String)> {
-    let text = std::str::from_utf8(bytes).map_err(|e| {
-        let line = 1 + bytes[..e.valid_up_to()].iter().filter(|&&b| b == b'\n').count();
-        (line, "a byte that is not UTF-8; for words as bytes use --words".to_string())
-    })?;
+/// Otherwise what is wrong, and where.
+pub fn from_decimal(name: &str, bytes: &[u8]) -> Result<Vec<u16>, String> {
+    let (source, mut faults) = Source::of(name, bytes);
     let mut words = Vec::new();
-    for (at, line) in text.lines().enumerate() {
-        for part in line.split_ascii_whitespace().filter(|&part| part != "|") {
-            let number = part.strip_suffix(',').unwrap_or(part);
-            match whole(number, &(0..=u16::MAX.into())) {
-                Ok(word) => words.push(word as u16),
-                Err(why) => return Err((at + 1, format!("a word is a whole number from 0 to {}; `{}` {why}", u16::MAX, part.escape_default()))),
+    if !faults.is_empty() {
+        return Err(shown(&source, &faults));
+    }
+    for line in 0..source.lines.len() {
+        for word in source.words(line).into_iter().filter(|word| word.text != "|") {
+            match whole(word.text.strip_suffix(',').unwrap_or(word.text), &(0..=u16::MAX.into())) {
+                Ok(number) => words.push(number as u16),
+                Err(why) => faults.push(Fault::new(word.at, format!("a word is a whole number from 0 to {}; {} {why}", u16::MAX, quoted(word.text)))),
             }
+        }
+        if !faults.is_empty() {
+            return Err(shown(&source, &faults));
         }
     }
     Ok(words)

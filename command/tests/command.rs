@@ -80,9 +80,9 @@ fn what_cannot_be_read() {
     let folder = run_in(&root(), &["words", "examples"]);
     assert_eq!((folder.status.code(), text(&folder.stderr)), (Some(2), "skarnuth: examples cannot be read: Is a directory (os error 21)\n".to_string()));
     let endless = run_in(&root(), &["words", "/dev/zero"]);
-    assert_eq!((endless.status.code(), text(&endless.stderr)), (Some(2), "skarnuth: /dev/zero is longer than 16777216 bytes: no readable table\n".to_string()));
+    assert_eq!((endless.status.code(), text(&endless.stderr)), (Some(2), "skarnuth: /dev/zero is longer than 4194304 bytes: no readable table\n".to_string()));
     let endless = run_in(&root(), &["list", "--decimal", "/dev/zero"]);
-    assert_eq!((endless.status.code(), text(&endless.stderr)), (Some(2), "skarnuth: /dev/zero is longer than 16777216 bytes: no words in decimal\n".to_string()));
+    assert_eq!((endless.status.code(), text(&endless.stderr)), (Some(2), "skarnuth: /dev/zero is longer than 4194304 bytes: no words in decimal\n".to_string()));
     let odd_name = program().arg("list").arg(OsStr::from_bytes(b"a\xff\x1b.table")).output().expect("the program starts");
     assert_eq!(odd_name.status.code(), Some(2));
     assert!(text(&odd_name.stderr).starts_with("skarnuth: a\u{fffd}\u{fffd}.table cannot be read: "), "{}", text(&odd_name.stderr));
@@ -123,22 +123,27 @@ fn standard_input_and_odd_names() {
 /// Words in decimal are as strict as numbers in a readable table.
 #[test]
 fn decimal_words() {
+    let told = |words: &[u8]| {
+        let out = run_on(words, &["list", "--decimal", "-"]);
+        assert_eq!((out.status.code(), out.stdout.len()), (Some(2), 0));
+        text(&out.stderr)
+    };
+    let word = "a word is a whole number from 0 to 65535";
     let cases = [
-        ("3 3 0 x", "standard input:1: a word is a whole number from 0 to 65535; `x` is no whole number in decimal digits\n"),
-        ("1\n\n-1", "standard input:3: a word is a whole number from 0 to 65535; `-1` is outside\n"),
-        ("65536", "standard input:1: a word is a whole number from 0 to 65535; `65536` is outside\n"),
-        ("1,000", "standard input:1: a word is a whole number from 0 to 65535; `1,000` is no whole number in decimal digits\n"),
-        ("01", "standard input:1: a word is a whole number from 0 to 65535; `01` is written 1\n"),
-        ("1 ,", "standard input:1: a word is a whole number from 0 to 65535; `,` is no whole number in decimal digits\n"),
-        ("1||2", "standard input:1: a word is a whole number from 0 to 65535; `1||2` is no whole number in decimal digits\n"),
-        ("1\n\u{1b}[31m", "standard input:2: a word is a whole number from 0 to 65535; `\\u{1b}[31m` is no whole number in decimal digits\n"),
+        ("3 3 0 x", "1:7", "`x` is no whole number in decimal digits", "    1 | 3 3 0 x\n      |       ^\n"),
+        ("1\n\n -1 2", "3:2", "`-1` is outside", "    3 |  -1 2\n      |  ^^\n"),
+        ("65536", "1:1", "`65536` is outside", "    1 | 65536\n      | ^^^^^\n"),
+        ("1,000", "1:1", "`1,000` is no whole number in decimal digits", "    1 | 1,000\n      | ^^^^^\n"),
+        ("01", "1:1", "`01` is written 1", "    1 | 01\n      | ^^\n"),
+        ("1 ,", "1:3", "`,` is no whole number in decimal digits", "    1 | 1 ,\n      |   ^\n"),
+        ("1||2", "1:1", "`1||2` is no whole number in decimal digits", "    1 | 1||2\n      | ^^^^\n"),
     ];
-    for (words, told) in cases {
-        let out = run_on(words.as_bytes(), &["list", "--decimal", "-"]);
-        assert_eq!((out.status.code(), out.stdout.len(), text(&out.stderr)), (Some(2), 0, told.to_string()), "{words}");
+    for (words, place, why, line) in cases {
+        assert_eq!(told(words.as_bytes()), format!("standard input:{place}: {word}; {why}\n{line}"));
     }
-    let out = run_on(&[0xff, 0xfe], &["list", "--decimal", "-"]);
-    assert_eq!((out.status.code(), text(&out.stderr)), (Some(2), "standard input:1: a byte that is not UTF-8; for words as bytes use --words\n".to_string()));
+    assert!(told(b"1\n\x1b[31m").starts_with("standard input:2:1: a control character (U+001B)"));
+    assert!(told(&[0xff, 0xfd]).starts_with("standard input:1:1: byte 255 is not UTF-8 here\n"));
+    assert!(told(&[3, 0, 3, 0]).starts_with("standard input:1:2: a byte 0, which no text has; words in bytes are read with --words\n"));
     let g = "3 3 0 | 0 1 0 | 0 3 2 | 1 1 0 | 0 1 1 2, 0 1 10, 9 1 8 |\n1 2 2 1 3, 0 4 8 16, 17 1 1, 2 1 18 | 1 1 2 2, 0 1 8, 2 6 8 1\n";
     assert_eq!(run_on(g.as_bytes(), &["list", "--decimal", "-"]).stdout, run_in(&root(), &["list", "examples/g.table"]).stdout);
 }

@@ -1,6 +1,6 @@
 //! What is wrong with a readable table, and where. Each is shown as file:line:column, what was expected, the line, and a caret.
 
-use super::source::{Source, Span};
+use super::source::{invisible, Source, Span};
 use std::fmt::Write as _;
 
 /// A mistake in a readable table. The other places are lines that help to understand it, as the first declaration of a name.
@@ -13,6 +13,8 @@ pub struct Fault {
 
 /// How many are shown at once; the rest are counted.
 const MOST_SHOWN: usize = 20;
+/// How many are looked for: a file with so many mistakes is no table, and need not be read to its end.
+pub const MOST: usize = 1000;
 /// How much of a long line is shown.
 const WIDEST: usize = 100;
 
@@ -28,6 +30,15 @@ impl Fault {
     }
 }
 
+/// A word of the file as messages have it: within quotes, and cut where it is very long.
+pub fn quoted(word: &str) -> String {
+    const LONGEST: usize = 60;
+    match word.char_indices().nth(LONGEST) {
+        None => format!("`{word}`"),
+        Some((end, _)) => format!("`{}...`", &word[..end]),
+    }
+}
+
 /// All of them, in the order of the file.
 pub fn shown(source: &Source, faults: &[Fault]) -> String {
     let mut sorted: Vec<&Fault> = faults.iter().collect();
@@ -37,7 +48,8 @@ pub fn shown(source: &Source, faults: &[Fault]) -> String {
         out += &one(source, fault);
     }
     if sorted.len() > MOST_SHOWN {
-        let _ = writeln!(out, "{}: and {} more", source.name, sorted.len() - MOST_SHOWN);
+        let least = if sorted.len() >= MOST { "at least " } else { "" };
+        let _ = writeln!(out, "{}: and {least}{} more", source.name, sorted.len() - MOST_SHOWN);
     }
     out
 }
@@ -61,7 +73,7 @@ fn column(line: &str, byte: usize) -> usize {
 fn marked(source: &Source, spans: &[Span]) -> String {
     let Some(first) = spans.first() else { return String::new() };
     let line = source.lines.get(first.line).map_or("", String::as_str);
-    let characters: Vec<char> = line.chars().map(|c| if c.is_control() { '\u{fffd}' } else { c }).collect();
+    let characters: Vec<char> = line.chars().map(|c| if c.is_control() || invisible(c) { '\u{fffd}' } else { c }).collect();
     let mut marks = vec![' '; characters.len() + 1];
     for span in spans {
         let from = column(line, span.from) - 1;

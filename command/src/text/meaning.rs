@@ -1,6 +1,6 @@
 //! What a readable table means: its names are looked up, document 01's rules are held at the line, and the words are laid out.
 
-use super::fault::Fault;
+use super::fault::{quoted, Fault, MOST};
 use super::number::whole;
 use super::source::{Source, Span, Word};
 use super::syntax::{self, nearest, Argument, Line};
@@ -77,6 +77,9 @@ struct Reader<'a, 'b> {
     /// Whether there is a start line, be it readable or not.
     started: bool,
     rules: Vec<Rule>,
+    /// Whether there are more symbols, or more rules, than a table may have.
+    full: bool,
+    long: bool,
     /// Words of lines that could not be read: names among them may be declared there.
     unread: HashSet<&'a str>,
 }
@@ -84,7 +87,7 @@ struct Reader<'a, 'b> {
 /// The reading of the lines, or nothing where there is a fault.
 pub fn meaning<'a>(source: &'a Source, lines: &[Line<'a>], faults: &mut Vec<Fault>) -> Option<Reading> {
     let mut reader =
-        Reader { source, faults, symbols: Vec::new(), start: None, started: false, rules: Vec::new(), unread: HashSet::new() };
+        Reader { source, faults, symbols: Vec::new(), start: None, started: false, rules: Vec::new(), full: false, long: false, unread: HashSet::new() };
     reader.declarations(lines);
     reader.rules(lines);
     reader.whole_table();
@@ -103,6 +106,9 @@ impl<'a> Reader<'a, '_> {
 
     fn declarations(&mut self, lines: &[Line<'a>]) {
         for (at, line) in lines.iter().enumerate() {
+            if self.faults.len() >= MOST {
+                return;
+            }
             match line {
                 Line::Start(name) => self.start(*name),
                 Line::Symbol(symbol) => self.symbol(at, symbol),
@@ -128,15 +134,26 @@ impl<'a> Reader<'a, '_> {
         };
         if let Some(first) = self.symbols.iter().find(|s| s.name.text == name.text) {
             let first = first.name.at;
-            self.faults.push(Fault::new(name.at, format!("`{}` is declared a second time", name.text)).beside(vec![first]));
+            self.faults.push(Fault::new(name.at, format!("{} is declared a second time", quoted(name.text))).beside(vec![first]));
             return;
         }
         if self.symbols.len() == limits::SYMBOLS {
-            self.fault(name.at, format!("a table has at most {} symbols; this is number {}", limits::SYMBOLS, limits::SYMBOLS + 1));
+            // Said once; uses of the symbol are then not looked at.
+            if !self.full {
+                self.fault(name.at, format!("a table has at most {} symbols; this is number {}", limits::SYMBOLS, limits::SYMBOLS + 1));
+            }
+            self.full = true;
+            self.unread.insert(name.text);
+            return;
         }
         let mut symbol = Symbol { name, terminal: line.terminal, attributes: Vec::new(), whole: line.whole };
-        for attribute in &line.attributes {
+        for attribute in line.attributes.iter().take(limits::ATTRIBUTES) {
             self.attribute(&mut symbol, attribute);
+        }
+        if let Some(extra) = line.attributes.get(limits::ATTRIBUTES) {
+            let text = format!("a symbol has at most {} attributes; this is number {}", limits::ATTRIBUTES, limits::ATTRIBUTES + 1);
+            self.fault(extra.at, text);
+            symbol.whole = false;
         }
         self.symbols.push(symbol);
     }
@@ -144,16 +161,12 @@ impl<'a> Reader<'a, '_> {
     fn attribute(&mut self, symbol: &mut Symbol<'a>, attribute: &syntax::Attribute<'a>) {
         let before = self.faults.len();
         if let Some(first) = symbol.attributes.iter().find(|a| a.name == attribute.name) {
-            let text = format!("`{}` has an attribute `{}` already", symbol.name.text, attribute.name);
+            let text = format!("{} has an attribute {} already", quoted(symbol.name.text), quoted(attribute.name));
             self.faults.push(Fault::new(attribute.at, text).beside(vec![first.at]));
             return;
         }
         if symbol.terminal && attribute.inherited {
-            let text = format!("`i.{}`: a terminal has synthesized attributes only, whose values come with the tree: s.{}", attribute.name, attribute.name);
-            self.fault(attribute.at, text);
-        }
-        if symbol.attributes.len() == limits::ATTRIBUTES {
-            let text = format!("a symbol has at most {} attributes; this is number {}", limits::ATTRIBUTES, limits::ATTRIBUTES + 1);
+            let text = "a terminal has synthesized attributes (s.) only: their values come with the tree";
             self.fault(attribute.at, text);
         }
         symbol.whole &= self.faults.len() == before;
@@ -165,6 +178,9 @@ impl<'a> Reader<'a, '_> {
     fn rules(&mut self, lines: &[Line<'a>]) {
         let mut above = Above::Nothing;
         for (at, line) in lines.iter().enumerate() {
+            if self.faults.len() >= MOST {
+                return;
+            }
             above = match line {
                 Line::Nothing => above,
                 Line::CommentedHeader => Above::Commented(at),
@@ -186,7 +202,11 @@ impl<'a> Reader<'a, '_> {
     fn header(&mut self, at: usize, line: &syntax::Header<'a>) -> Above {
         let header = self.source.words(at).first().map_or(self.source.end_of(at), |w| w.at);
         if self.rules.len() == limits::RULES {
-            self.fault(header, format!("a table has at most {} rules; this is number {}", limits::RULES, limits::RULES + 1));
+            if !self.long {
+                self.fault(header, format!("a table has at most {} rules; this is number {}", limits::RULES, limits::RULES + 1));
+            }
+            self.long = true;
+            return Above::Unknown;
         }
         let mut rule =
             Rule { header, parts: Vec::new(), whole: line.whole, functions: Vec::new(), defined: [None; limits::OCCURRENCES], complete: true };
@@ -197,7 +217,7 @@ impl<'a> Reader<'a, '_> {
             self.fault(extra.at, format!("a right side has at most {} symbols; this is number {}", limits::RIGHT, limits::RIGHT + 1));
             rule.whole = false;
         }
-        for &word in &line.right {
+        for &word in line.right.iter().take(limits::RIGHT) {
             match self.declared(word) {
                 Some(x) => rule.parts.push((x, word.at)),
                 None => rule.whole = false,
@@ -214,7 +234,7 @@ impl<'a> Reader<'a, '_> {
         };
         if self.symbols[x].terminal {
             let declared = self.symbols[x].name.at;
-            let text = format!("`{}` is a terminal, and a rule's left side is a nonterminal", word.text);
+            let text = format!("{} is a terminal, and a rule's left side is a nonterminal", quoted(word.text));
             self.faults.push(Fault::new(word.at, text).beside(vec![declared]));
             rule.whole = false;
         }
@@ -227,7 +247,7 @@ impl<'a> Reader<'a, '_> {
         if found.is_none() && !self.unread.contains(word.text) {
             let near = nearest(word.text, self.symbols.iter().map(|s| s.name.text));
             let near = near.map_or(String::new(), |name| format!("; did you mean {name}?"));
-            self.fault(word.at, format!("no symbol `{}` is declared{near}", word.text));
+            self.fault(word.at, format!("no symbol {} is declared{near}", quoted(word.text)));
         }
         found
     }
@@ -307,7 +327,7 @@ impl<'a> Reader<'a, '_> {
     fn carried(&self, r: usize, line: &syntax::Function<'a>, number: &str) -> String {
         const COPY: usize = 1;
         if let Err(why) = whole(number, &limits::CONSTANTS) {
-            return format!("an argument is an attribute, SYMBOL.ATTRIBUTE; `{number}` {why}");
+            return format!("an argument is an attribute, SYMBOL.ATTRIBUTE; {} {why}", quoted(number));
         }
         if line.operation.is_some_and(|(op, _)| op == COPY) {
             return format!("`{number}` is a number, and copy takes an attribute; for a constant write: const {number}");
@@ -334,14 +354,14 @@ impl<'a> Reader<'a, '_> {
             (None, [i]) => *i,
             (None, several) => {
                 let readings: Vec<String> = (1..=several.len()).map(|k| format!("{}#{k}.{}", o.symbol, o.attribute)).collect();
-                let text = format!("`{}` could be {}: write which is meant", o.word.text, readings.join(" or "));
+                let text = format!("{} could be {}: write which is meant", quoted(o.word.text), readings.join(" or "));
                 self.faults.push(Fault::new(o.word.at, text).beside(spans(several)));
                 return None;
             }
             (Some(k), several) => match several.get(k.saturating_sub(1)) {
                 Some(i) => *i,
                 None => {
-                    let text = format!("`{}`: {} stands {} in this rule", o.word.text, o.symbol, times(several.len()));
+                    let text = format!("{}: {} stands {} in this rule", quoted(o.word.text), o.symbol, times(several.len()));
                     self.faults.push(Fault::new(o.word.at, text).beside(spans(several)));
                     return None;
                 }
@@ -366,7 +386,7 @@ impl<'a> Reader<'a, '_> {
         let near = nearest(o.symbol, rule.parts.iter().map(|p| self.symbols[p.0].name.text));
         let near = near.map_or(String::new(), |name| format!("; did you mean {name}?"));
         let declared = if self.symbols.iter().any(|s| s.name.text == o.symbol) { "" } else { " and is not declared" };
-        let text = format!("`{}`: {} does not stand in this rule{declared}{near}", o.word.text, o.symbol);
+        let text = format!("{}: {} does not stand in this rule{declared}{near}", quoted(o.word.text), quoted(o.symbol));
         Some(Fault::new(o.word.at, text).beside(vec![whole_line(self.source, rule.header.line)]))
     }
 
@@ -429,10 +449,10 @@ impl<'a> Reader<'a, '_> {
         let symbol = &self.symbols[x];
         let declared = symbol.name.at;
         if symbol.terminal {
-            let text = format!("`{}` is a terminal, and the start symbol is a nonterminal", name.text);
+            let text = format!("{} is a terminal, and the start symbol is a nonterminal", quoted(name.text));
             self.faults.push(Fault::new(name.at, text).beside(vec![declared]));
         } else if let Some(inherited) = symbol.attributes.iter().find(|a| a.inherited) {
-            let text = format!("`{}` has an inherited attribute, and the start symbol has none: nothing stands above it", name.text);
+            let text = format!("{} has an inherited attribute, and the start symbol has none: nothing stands above it", quoted(name.text));
             self.faults.push(Fault::new(name.at, text).beside(vec![inherited.at]));
         }
     }
@@ -521,7 +541,7 @@ fn no_attribute(symbol: &Symbol, o: syntax::Occurrence) -> Option<Fault> {
     let names: Vec<&str> = symbol.attributes.iter().map(|a| a.name).collect();
     let has = if names.is_empty() { "it has none".to_string() } else { format!("it has {}", names.join(", ")) };
     let near = nearest(o.attribute, names.iter().copied()).map_or(String::new(), |name| format!("; did you mean {name}?"));
-    let text = format!("`{}`: {} has no attribute {}; {has}{near}", o.word.text, o.symbol, o.attribute);
+    let text = format!("{}: {} has no attribute {}; {has}{near}", quoted(o.word.text), o.symbol, quoted(o.attribute));
     Some(Fault::new(o.word.at, text).beside(vec![symbol.name.at]))
 }
 

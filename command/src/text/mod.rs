@@ -6,7 +6,7 @@ mod number;
 mod source;
 mod syntax;
 
-pub use fault::{shown, Fault};
+pub use fault::{quoted, shown, Fault};
 pub use meaning::{Named, Reading, RuleLines};
 pub use number::whole;
 pub use source::{Source, Span};
@@ -21,6 +21,12 @@ pub fn read(name: &str, bytes: &[u8]) -> (Source, Result<Reading, Vec<Fault>>) {
 }
 
 fn understood(source: &Source, faults: &mut Vec<Fault>) -> Option<Reading> {
-    let lines: Vec<_> = (0..source.lines.len()).map(|at| syntax::line(source, at, faults)).collect();
+    let mut lines = Vec::new();
+    for at in 0..source.lines.len() {
+        lines.push(syntax::line(source, at, faults));
+        if faults.len() >= fault::MOST {
+            return None;
+        }
+    }
     meaning::meaning(source, &lines, faults)
 }

@@ -1,6 +1,6 @@
 //! A file's bytes as lines and words, and where each word stands. Line ends and bytes that no readable table has are found here.
 
-use super::fault::Fault;
+use super::fault::{Fault, MOST};
 
 /// Part of a line: from one byte of it up to another. Lines are counted from 0 here and shown from 1.
 #[derive(Debug, Clone, Copy, PartialEq, Eq, PartialOrd, Ord)]
@@ -35,10 +35,11 @@ impl Source {
             let fault = Fault::new(source.end(), "the file is UTF-16; save it as UTF-8");
             return (source, vec![fault]);
         }
+        let bytes_of_words = bytes.contains(&0);
         let mut faults = Vec::new();
         let mut ends = LineEnds { first: None, told: false };
         let mut rest = bytes;
-        while !rest.is_empty() || source.lines.is_empty() {
+        while (!rest.is_empty() || source.lines.is_empty()) && faults.len() < MOST {
             let (line, after, ended) = match rest.iter().position(|&b| b == b'\n') {
                 Some(n) => (&rest[..n], &rest[n + 1..], true),
                 None => (rest, &rest[rest.len()..], false),
@@ -47,7 +48,7 @@ impl Source {
             let returned = ended && line.last() == Some(&b'\r');
             let line = if returned { &line[..line.len() - 1] } else { line };
             let at = source.lines.len();
-            faults.extend(bad_byte(at, line));
+            faults.extend(if bytes_of_words { zero(at, line) } else { bad_character(at, line) });
             source.lines.push(String::from_utf8_lossy(line).into_owned());
             if ended {
                 faults.extend(ends.mixed(at, line.len(), returned));
@@ -82,21 +83,34 @@ impl Source {
     }
 }
 
-/// The first byte of a line that no readable table has: a control character, or what is not UTF-8.
-fn bad_byte(line: usize, bytes: &[u8]) -> Option<Fault> {
+/// A byte 0, which no text has. Words in bytes have many, so nothing else is said of such a file.
+fn zero(line: usize, bytes: &[u8]) -> Option<Fault> {
+    let before = bytes.iter().position(|&b| b == 0)?;
+    let from = String::from_utf8_lossy(&bytes[..before]).len();
+    Some(Fault::new(Span { line, from, to: from + 1 }, "a byte 0, which no text has; words in bytes are read with --words"))
+}
+
+/// The first character of a line that no readable table has, or what is not UTF-8.
+fn bad_character(line: usize, bytes: &[u8]) -> Option<Fault> {
     let (text, broken) = match std::str::from_utf8(bytes) {
         Ok(text) => (text, None),
         Err(e) => (std::str::from_utf8(&bytes[..e.valid_up_to()]).unwrap_or(""), Some(e.valid_up_to())),
     };
-    if let Some((from, c)) = text.char_indices().find(|(_, c)| c.is_control()) {
+    if let Some((from, c)) = text.char_indices().find(|&(_, c)| c.is_control() || invisible(c)) {
         let what = match c {
             '\t' => "a tab; use blanks".to_string(),
             '\r' => "a carriage return (byte 13) that no line feed follows".to_string(),
+            _ if invisible(c) => format!("a character that cannot be seen (U+{:04X})", c as u32),
             _ => format!("a control character (U+{:04X}); only blanks and line ends stand between words", c as u32),
         };
         return Some(Fault::new(Span { line, from, to: from + c.len_utf8() }, what));
     }
     broken.map(|from| Fault::new(Span { line, from, to: from + 1 }, format!("byte {} is not UTF-8 here", bytes[from])))
+}
+
+/// Characters without a width, and those that turn the direction of writing: with them a line can look like another.
+pub fn invisible(c: char) -> bool {
+    matches!(c, '\u{ad}' | '\u{61c}' | '\u{200b}'..='\u{200f}' | '\u{2028}'..='\u{202e}' | '\u{2060}'..='\u{206f}' | '\u{feff}')
 }
 
 /// The kind of line end that the file began with: whether it has a carriage return. A file that mixes them is told so once.

@@ -1,7 +1,7 @@
 //! What each line of a readable table is: a declaration, a rule's header, a function or a comment. Names are not looked up here.
 //! A line with a mistake keeps what could be read of it, so that one mistake is not reported again at every use of a name.
 
-use super::fault::Fault;
+use super::fault::{quoted, Fault};
 use super::number::{self, whole};
 use super::source::{Source, Span, Word};
 use crate::limits;
@@ -19,6 +19,9 @@ pub const OPERATIONS: [(&str, usize, &str); 9] = [
     ("served", 4, "p s q t"),
 ];
 const CONST: usize = 0;
+/// The words that begin a line which is no function.
+const KEYWORDS: [&str; 4] = ["start", "nonterminal", "terminal", "rule"];
+const FUNCTION: &str = "SYMBOL.ATTRIBUTE = OPERATION ARGUMENTS";
 /// A symbol stands at most at every position of a rule.
 const POSITIONS: std::ops::RangeInclusive<i64> = 1..=limits::RIGHT as i64 + 1;
 
@@ -108,11 +111,10 @@ fn holds_header(words: &[Word]) -> bool {
 /// The words before a comment. After other words on its line a comment is a # and a blank, so that `lines #2` is not half a comment.
 fn without_comment<'a>(all: &[Word<'a>], faults: &mut Vec<Fault>) -> Vec<Word<'a>> {
     let Some(n) = all.iter().position(|w| w.text.starts_with('#')) else { return all.to_vec() };
-    if all[n].text.trim_start_matches('#') != "" {
-        faults.push(Fault::new(
-            all[n].at,
-            format!("`{}`: a comment after other words is # and a blank; a number stands right behind its symbol, as in lines#2.highest", all[n].text),
-        ));
+    if !all[n].text.trim_start_matches('#').is_empty() {
+        let word = quoted(all[n].text);
+        let text = format!("{word}: a comment after other words is # and a blank; a count stands right behind its symbol, as in lines#2.highest");
+        faults.push(Fault::new(all[n].at, text));
     }
     all[..n].to_vec()
 }
@@ -132,7 +134,7 @@ impl<'a> Reader<'a, '_> {
     fn start(&mut self) -> Line<'a> {
         match self.words {
             [_] => self.fault(self.end, "the name of the start symbol is missing: start NAME"),
-            [_, _, extra, ..] => self.fault(extra.at, format!("`{}` is a word too many: start takes one name", extra.text)),
+            [_, _, extra, ..] => self.fault(extra.at, format!("{} is a word too many: start takes one name", quoted(extra.text))),
             _ => {}
         }
         Line::Start(self.words.get(1).copied().filter(|word| self.is_name(word)))
@@ -154,17 +156,14 @@ impl<'a> Reader<'a, '_> {
             (Some(name), _) => (false, name),
             (_, Some(name)) => (true, name),
             _ => {
-                let name = word.text.rsplit('.').next().unwrap_or("");
-                let name = if is_name(name) { name } else { "name" };
-                self.fault(
-                    word.at,
-                    format!("`{}` is no attribute: write s.{name} for a synthesized one (it goes up) or i.{name} for an inherited one (it comes down)", word.text),
-                );
+                let name = word.text.rsplit('.').next().filter(|name| is_name(name) && name.len() < 40).unwrap_or("NAME");
+                let forms = format!("s.{name} for a synthesized one (it goes up) or i.{name} for an inherited one (it comes down)");
+                self.fault(word.at, format!("{} is no attribute: write {forms}", quoted(word.text)));
                 return None;
             }
         };
         if !is_name(name) {
-            self.fault(word.at, format!("`{}`: behind the dot {}", word.text, not_a_name(name)));
+            self.fault(word.at, format!("{}: behind the dot {}", quoted(word.text), not_a_name(name)));
             return None;
         }
         Some(Attribute { inherited, name, at: word.at })
@@ -187,8 +186,9 @@ impl<'a> Reader<'a, '_> {
     }
 
     fn is_header_name(&mut self, word: &Word<'a>) -> bool {
-        if let Some((name, _)) = word.text.split_once('#').filter(|(name, _)| is_name(name)) {
-            self.fault(word.at, format!("`{}`: a rule's header has names alone, here {name}; in its functions they are counted from the left side on", word.text));
+        if word.text.split_once('#').is_some_and(|(name, _)| is_name(name)) {
+            let text = "a rule's header has names without #; in its functions a symbol is counted from the left side on";
+            self.fault(word.at, format!("{}: {text}", quoted(word.text)));
             return false;
         }
         self.is_name(word)
@@ -216,22 +216,24 @@ impl<'a> Reader<'a, '_> {
     }
 
     fn not_a_function(&mut self, first: Word<'a>) {
-        let keyword = ["start", "nonterminal", "terminal", "rule"].into_iter().find(|k| nearest(first.text, [*k].into_iter()).is_some());
-        if let Some(keyword) = keyword {
-            return self.fault(first.at, format!("`{}` begins no line; did you mean {keyword}?", first.text));
-        }
-        if let Some(glued) = self.words.iter().find(|w| w.text.len() > 1 && w.text.contains('=')) {
-            return self.fault(glued.at, format!("`{}`: = stands alone, with a blank on each side", glued.text));
-        }
-        if let (true, Some(second)) = (first.text.contains('.'), self.words.get(1)) {
-            return self.fault(second.at, "expected =: a function is SYMBOL.ATTRIBUTE = OPERATION ARGUMENTS");
-        }
-        self.fault(first.at, format!("`{}` begins no line: expected start, nonterminal, terminal, rule or a function SYMBOL.ATTRIBUTE = OPERATION ARGUMENTS", first.text));
+        let word = quoted(first.text);
+        let (at, text) = if let Some(keyword) = KEYWORDS.into_iter().find(|k| nearest(first.text, [*k].into_iter()).is_some()) {
+            (first.at, format!("{word} begins no line; did you mean {keyword}?"))
+        } else if let Some(glued) = self.words.iter().find(|w| w.text.len() > 1 && w.text.contains('=')) {
+            (glued.at, format!("{}: = stands alone, with a blank on each side", quoted(glued.text)))
+        } else if number::looks_like_one(first.text) {
+            (first.at, format!("{word} begins no line; words in decimal are read with --decimal"))
+        } else if let (true, Some(second)) = (first.text.contains('.'), self.words.get(1)) {
+            (second.at, format!("expected =: a function is {FUNCTION}"))
+        } else {
+            (first.at, format!("{word} begins no line: expected {}, or a function {FUNCTION}", KEYWORDS.join(", ")))
+        };
+        self.fault(at, text);
     }
 
     fn operation(&mut self) -> Option<(usize, Span)> {
         let Some(word) = self.words.get(2) else {
-            self.fault(self.end, "the operation is missing: SYMBOL.ATTRIBUTE = OPERATION ARGUMENTS");
+            self.fault(self.end, format!("the operation is missing: {FUNCTION}"));
             return None;
         };
         let found = OPERATIONS.iter().position(|(name, ..)| *name == word.text);
@@ -272,9 +274,9 @@ impl<'a> Reader<'a, '_> {
             // Two's complement: the low 16 bits.
             Ok(n) => Some(Argument::Constant(n as u16, word.at)),
             Err(why) => {
-                let copied = if read_occurrence(word.text).is_some() { format!("; to take over an attribute write: copy {}", word.text) } else { String::new() };
+                let copied = if read_occurrence(word.text).is_some() { "; to take over an attribute write copy" } else { "" };
                 let (least, most) = (limits::CONSTANTS.start(), limits::CONSTANTS.end());
-                self.fault(word.at, format!("const takes a whole number from {least} to {most}; `{}` {why}{copied}", word.text));
+                self.fault(word.at, format!("const takes a whole number from {least} to {most}; {} {why}{copied}", quoted(word.text)));
                 None
             }
         }
@@ -302,23 +304,23 @@ fn read_occurrence(text: &str) -> Option<(&str, Option<usize>, &str)> {
 fn no_occurrence(text: &str) -> String {
     let form = "expected SYMBOL.ATTRIBUTE, or SYMBOL#1.ATTRIBUTE where the symbol stands several times in the rule";
     let Some((before, attribute)) = text.split_once('.') else {
-        return format!("`{text}` names no attribute: {form}");
+        return format!("{} names no attribute: {form}", quoted(text));
     };
-    if let Some((symbol, digits)) = before.split_once('#').filter(|(symbol, _)| is_name(symbol)) {
+    if let Some((_, digits)) = before.split_once('#').filter(|(symbol, _)| is_name(symbol)) {
         if let Err(why) = whole(digits, &POSITIONS) {
-            let why = if digits.is_empty() { "it is missing".to_string() } else { format!("`{digits}` {why}") };
-            return format!("`{text}`: behind {symbol}# stands a number from 1 to {}, counted from the left side on; {why}", POSITIONS.end());
+            let why = if digits.is_empty() { "it is missing".to_string() } else { format!("{} {why}", quoted(digits)) };
+            return format!("{}: behind # stands a number from 1 to {}, counted from the left side on; {why}", quoted(text), POSITIONS.end());
         }
     }
     let wrong = [before.split('#').next().unwrap_or(""), attribute].into_iter().find(|part| !is_name(part)).unwrap_or(text);
-    format!("`{text}`: {}", not_a_name(wrong))
+    format!("{}: {}", quoted(text), not_a_name(wrong))
 }
 
 fn no_operation(text: &str) -> String {
     let names = || OPERATIONS.iter().map(|(name, ..)| *name);
     let all = names().collect::<Vec<_>>().join(", ");
     let near = nearest(text, names()).map_or(String::new(), |name| format!("; did you mean {name}?"));
-    format!("no operation `{text}`: the operations are {all}{near}")
+    format!("no operation {}: the operations are {all}{near}", quoted(text))
 }
 
 pub fn is_name(text: &str) -> bool {
@@ -331,7 +333,7 @@ fn not_a_name(text: &str) -> String {
         return "a name is missing".to_string();
     }
     let odd = text.chars().find(|c| !c.is_ascii()).map_or(String::new(), |c| format!(" (it has the character U+{:04X})", c as u32));
-    format!("`{text}` is no name{odd}: a name has letters a to z and A to Z, digits and underscores, no digit first")
+    format!("{} is no name{odd}: a name has letters a to z and A to Z, digits and underscores, no digit first", quoted(text))
 }
 
 /// The name that a mistyped one is nearest to: of the same letters in another case, or at most two letters away.
