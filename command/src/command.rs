@@ -142,7 +142,8 @@ fn once<T>(option: &mut Option<T>, value: T, name: &str) -> Result<(), String> {
 fn rule_number(word: Option<&OsString>) -> Result<usize, String> {
     let text = word.ok_or("--rule takes the number of a rule")?.to_string_lossy();
     let last = limits::RULES as i64 - 1;
-    let number = text::whole(&text, &(0..=last)).map_err(|why| format!("--rule takes the number of a rule, 0 to {last}; {} {why}", plain(&text)))?;
+    let number =
+        text::whole(&text, &(0..=last)).map_err(|why| format!("--rule takes the number of a rule, 0 to {last}; {} {why}", plain(&text)))?;
     Ok(number as usize)
 }
 
@@ -155,7 +156,11 @@ fn plain(text: &str) -> String {
 
 /// The name that messages have for a file.
 fn shown(file: &OsStr) -> String {
-    if file == "-" { "standard input".to_string() } else { plain(&file.to_string_lossy()) }
+    if file == "-" {
+        "standard input".to_string()
+    } else {
+        plain(&file.to_string_lossy())
+    }
 }
 
 /// The bytes of a file, up to a limit and one more.
@@ -208,7 +213,11 @@ fn readable(request: &Request) -> Result<Outcome, Outcome> {
     })?;
     if request.task == Task::Words {
         let decimal = request.form == Form::Decimal;
-        return Ok(Outcome::accepted(if decimal { words::to_decimal(&reading.words).into_bytes() } else { words::to_bytes(&reading.words) }));
+        return Ok(Outcome::accepted(if decimal {
+            words::to_decimal(&reading.words).into_bytes()
+        } else {
+            words::to_bytes(&reading.words)
+        }));
     }
     let grammar = Grammar::named(table, &reading);
     Ok(planned(request, &grammar, &proved::plan(&reading.words)))
@@ -250,7 +259,12 @@ fn planned(request: &Request, grammar: &Grammar, planned: &Planned) -> Outcome {
     let Some(refusal) = planned.refusal else {
         return Outcome::accepted(match request.task {
             Task::List | Task::Words => list::listing(&grammar.table, planned),
-            Task::Explain => format!("accepted: {}, {}\n\n{}", counted(grammar.symbols.len(), "symbol"), counted(rules, "rule"), explain::explained(grammar, planned)),
+            Task::Explain => format!(
+                "accepted: {}, {}\n\n{}",
+                counted(grammar.symbols.len(), "symbol"),
+                counted(rules, "rule"),
+                explain::explained(grammar, planned)
+            ),
             Task::Dot => dot::drawn(grammar, planned, request.rule),
         });
     };

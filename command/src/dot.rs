@@ -39,7 +39,10 @@ fn proved_sets(grammar: &Grammar, planned: &Planned) -> Sets {
 impl Drawer<'_> {
     fn rule(&self, rule: usize) -> String {
         let relation = if self.sets.is_some() { "EDP" } else { "IDP" };
-        let mut out = format!("digraph \"rule {rule}\" {{\n  label=\"{relation} of {}\";\n  newrank=true;\n  node [shape=box];\n", self.grammar.rule(rule));
+        let mut out = format!(
+            "digraph \"rule {rule}\" {{\n  label=\"{relation} of {}\";\n  newrank=true;\n  node [shape=box];\n",
+            self.grammar.rule(rule)
+        );
         for position in 0..self.grammar.table.rules[rule].symbols.len() {
             out += &self.part(rule, position);
         }

@@ -26,7 +26,11 @@ pub fn explained(grammar: &Grammar, planned: &Planned) -> String {
 fn symbol(grammar: &Grammar, planned: &Planned, x: usize) -> String {
     let (symbol, named) = (&grammar.table.symbols[x], &grammar.symbols[x]);
     if symbol.terminal {
-        let with = if named.attributes.is_empty() { "without attributes".to_string() } else { format!("the tree brings {}", named.attributes.join(", ")) };
+        let with = if named.attributes.is_empty() {
+            "without attributes".to_string()
+        } else {
+            format!("the tree brings {}", named.attributes.join(", "))
+        };
         return format!("{}: a terminal, {with}\n", named.name);
     }
     let count = visits(&grammar.table, planned, x);

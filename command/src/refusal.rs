@@ -29,14 +29,22 @@ pub fn of_words(words: &[u16], refusal: Refusal) -> String {
 }
 
 fn are(words: usize) -> String {
-    if words == 1 { "1 word is".to_string() } else { format!("{words} words are") }
+    if words == 1 {
+        "1 word is".to_string()
+    } else {
+        format!("{words} words are")
+    }
 }
 
 fn wrong_class(table: &Table, role: Option<Role>) -> String {
     match role {
-        Some(Role::Mask(x)) => format!("symbol {x} is a terminal, and its mask makes an attribute inherited; terminals have synthesized attributes only"),
+        Some(Role::Mask(x)) => {
+            format!("symbol {x} is a terminal, and its mask makes an attribute inherited; terminals have synthesized attributes only")
+        }
         Some(Role::Left(r)) => format!("the left side of rule {r} is a terminal; it must be a nonterminal"),
-        _ if table.symbols.get(table.start).is_some_and(|s| s.terminal) => format!("the start symbol, {}, is a terminal; it must be a nonterminal", table.start),
+        _ if table.symbols.get(table.start).is_some_and(|s| s.terminal) => {
+            format!("the start symbol, {}, is a terminal; it must be a nonterminal", table.start)
+        }
         _ => format!("the start symbol, {}, has an inherited attribute; it must have none", table.start),
     }
 }

@@ -199,7 +199,10 @@ fn sets_of(table: &Table, induced: &Induced, x: usize) -> [usize; ATTRIBUTES] {
     for k in 1..=last {
         // Odd sets are synthesized.
         let mut taken: Vec<usize> = (0..symbol.attributes).filter(|&a| sets[a] == 0 && symbol.inherited(a) == (k % 2 == 0)).collect();
-        while let Some(at) = taken.iter().position(|&a| (0..symbol.attributes).any(|b| induced.contains_key(&(x, a, b)) && sets[b] == 0 && !taken.contains(&b))) {
+        while let Some(at) = taken
+            .iter()
+            .position(|&a| (0..symbol.attributes).any(|b| induced.contains_key(&(x, a, b)) && sets[b] == 0 && !taken.contains(&b)))
+        {
             taken.remove(at);
         }
         taken.iter().for_each(|&a| sets[a] = k);

@@ -39,7 +39,8 @@ pub fn from_decimal(name: &str, bytes: &[u8]) -> Result<Vec<u16>, String> {
         for word in source.words(line).into_iter().filter(|word| word.text != "|") {
             match whole(word.text.strip_suffix(',').unwrap_or(word.text), &(0..=u16::MAX.into())) {
                 Ok(number) => words.push(number as u16),
-                Err(why) => faults.push(Fault::new(word.at, format!("a word is a whole number from 0 to {}; {} {why}", u16::MAX, quoted(word.text)))),
+                Err(why) => faults
+                    .push(Fault::new(word.at, format!("a word is a whole number from 0 to {}; {} {why}", u16::MAX, quoted(word.text)))),
             }
         }
         if !faults.is_empty() {

@@ -39,7 +39,11 @@ fn bad_arguments_get_the_usage() {
     ];
     for (words, why) in cases {
         let out = run_in(&root(), words);
-        assert_eq!((out.status.code(), text(&out.stdout), text(&out.stderr)), (Some(2), String::new(), format!("skarnuth: {why}\n{USAGE}")), "{words:?}");
+        assert_eq!(
+            (out.status.code(), text(&out.stdout), text(&out.stderr)),
+            (Some(2), String::new(), format!("skarnuth: {why}\n{USAGE}")),
+            "{words:?}"
+        );
     }
 }
 
@@ -76,13 +80,25 @@ fn one_version() {
 #[test]
 fn what_cannot_be_read() {
     let missing = run_in(&root(), &["list", "no such file"]);
-    assert_eq!((missing.status.code(), text(&missing.stderr)), (Some(2), "skarnuth: no such file cannot be read: No such file or directory (os error 2)\n".to_string()));
+    assert_eq!(
+        (missing.status.code(), text(&missing.stderr)),
+        (Some(2), "skarnuth: no such file cannot be read: No such file or directory (os error 2)\n".to_string())
+    );
     let folder = run_in(&root(), &["words", "examples"]);
-    assert_eq!((folder.status.code(), text(&folder.stderr)), (Some(2), "skarnuth: examples cannot be read: Is a directory (os error 21)\n".to_string()));
+    assert_eq!(
+        (folder.status.code(), text(&folder.stderr)),
+        (Some(2), "skarnuth: examples cannot be read: Is a directory (os error 21)\n".to_string())
+    );
     let endless = run_in(&root(), &["words", "/dev/zero"]);
-    assert_eq!((endless.status.code(), text(&endless.stderr)), (Some(2), "skarnuth: /dev/zero is longer than 4194304 bytes: no readable table\n".to_string()));
+    assert_eq!(
+        (endless.status.code(), text(&endless.stderr)),
+        (Some(2), "skarnuth: /dev/zero is longer than 4194304 bytes: no readable table\n".to_string())
+    );
     let endless = run_in(&root(), &["list", "--decimal", "/dev/zero"]);
-    assert_eq!((endless.status.code(), text(&endless.stderr)), (Some(2), "skarnuth: /dev/zero is longer than 4194304 bytes: no words in decimal\n".to_string()));
+    assert_eq!(
+        (endless.status.code(), text(&endless.stderr)),
+        (Some(2), "skarnuth: /dev/zero is longer than 4194304 bytes: no words in decimal\n".to_string())
+    );
     let odd_name = program().arg("list").arg(OsStr::from_bytes(b"a\xff\x1b.table")).output().expect("the program starts");
     assert_eq!(odd_name.status.code(), Some(2));
     assert!(text(&odd_name.stderr).starts_with("skarnuth: a\u{fffd}\u{fffd}.table cannot be read: "), "{}", text(&odd_name.stderr));
@@ -92,8 +108,20 @@ fn what_cannot_be_read() {
 fn what_cannot_be_written() {
     for words in [["list", "examples/g.table"], ["words", "examples/g.table"], ["explain", "examples/crossed.table"]] {
         let full = std::fs::File::options().write(true).open("/dev/full").expect("/dev/full");
-        let out = program().current_dir(root()).args(words).stdout(Stdio::from(full)).stderr(Stdio::piped()).spawn().expect("it starts").wait_with_output().expect("it ends");
-        assert_eq!((out.status.code(), text(&out.stderr)), (Some(2), "skarnuth: standard output cannot be written: No space left on device (os error 28)\n".to_string()), "{words:?}");
+        let out = program()
+            .current_dir(root())
+            .args(words)
+            .stdout(Stdio::from(full))
+            .stderr(Stdio::piped())
+            .spawn()
+            .expect("it starts")
+            .wait_with_output()
+            .expect("it ends");
+        assert_eq!(
+            (out.status.code(), text(&out.stderr)),
+            (Some(2), "skarnuth: standard output cannot be written: No space left on device (os error 28)\n".to_string()),
+            "{words:?}"
+        );
     }
 }
 
@@ -101,8 +129,15 @@ fn what_cannot_be_written() {
 #[test]
 fn closed_standard_output() {
     let script = "exec \"$0\" list examples/g.table >&-";
-    let out = std::process::Command::new("sh").current_dir(root()).args(["-c", script, env!("CARGO_BIN_EXE_skarnuth")]).output().expect("sh starts");
-    assert_eq!((out.status.code(), text(&out.stderr)), (Some(2), "skarnuth: standard output cannot be written: it is closed\n".to_string()));
+    let out = std::process::Command::new("sh")
+        .current_dir(root())
+        .args(["-c", script, env!("CARGO_BIN_EXE_skarnuth")])
+        .output()
+        .expect("sh starts");
+    assert_eq!(
+        (out.status.code(), text(&out.stderr)),
+        (Some(2), "skarnuth: standard output cannot be written: it is closed\n".to_string())
+    );
 }
 
 #[test]
@@ -156,5 +191,8 @@ fn a_rule_to_draw() {
     assert_eq!(text(&one.stdout).matches("digraph").count(), 1);
     assert_eq!(text(&run_in(&root(), &["dot", "examples/g.table"]).stdout).matches("digraph").count(), 3);
     let none = run_in(&root(), &["dot", "--rule", "3", "examples/g.table"]);
-    assert_eq!((none.status.code(), text(&none.stderr)), (Some(2), "skarnuth: examples/g.table has rules 0 to 2; --rule 3 is none\n".to_string()));
+    assert_eq!(
+        (none.status.code(), text(&none.stderr)),
+        (Some(2), "skarnuth: examples/g.table has rules 0 to 2; --rule 3 is none\n".to_string())
+    );
 }

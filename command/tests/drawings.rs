@@ -188,7 +188,9 @@ fn check(name: &str, table: &Table, planned: &Planned, drawn: &str) {
         }
         let red: Vec<(usize, usize)> = graph.arcs.iter().filter(|a| a.2.contains_key("color")).map(|a| (a.0, a.1)).collect();
         match planned.refusal {
-            Some(refusal) if refusal.place == r => assert!(paths(red.into_iter())[refusal.second] >> refusal.second & 1 == 1, "{name}: a red cycle"),
+            Some(refusal) if refusal.place == r => {
+                assert!(paths(red.into_iter())[refusal.second] >> refusal.second & 1 == 1, "{name}: a red cycle")
+            }
             _ => assert!(red.is_empty(), "{name}: red without a cycle"),
         }
     }

@@ -50,7 +50,7 @@ fn one(seed: u64, seen: &mut Seen) {
     let grammar = Grammar::named(table, &reading);
     let planned = plan(&reading.words);
     // Drawing works out the relations again, which takes longer than all the rest.
-    if seed % 16 == 0 {
+    if seed.is_multiple_of(16) {
         assert!(dot::drawn(&grammar, &planned, None).starts_with("digraph"), "seed {seed}: not drawn");
     }
     match planned.refusal {
@@ -85,7 +85,13 @@ fn every_text_ends_in_words_or_in_faults() {
     let sum = |of: fn(&Seen) -> u64| parts.iter().map(of).sum::<u64>();
     let (read, unread) = (sum(|s| s.read), sum(|s| s.unread));
     let (accepted, circular, not_ordered) = (sum(|s| s.accepted), sum(|s| s.circular), sum(|s| s.not_ordered));
-    println!("{TEXTS} texts in {:.1} s: {read} read ({accepted} accepted, {circular} refused with 9, {not_ordered} with 10), {unread} not", start.elapsed().as_secs_f64());
-    assert!(read > 20_000 && unread > 20_000 && accepted > 5_000 && circular > 1_000 && not_ordered > 500, "some kind of text was hardly reached");
+    println!(
+        "{TEXTS} texts in {:.1} s: {read} read ({accepted} accepted, {circular} refused with 9, {not_ordered} with 10), {unread} not",
+        start.elapsed().as_secs_f64()
+    );
+    assert!(
+        read > 20_000 && unread > 20_000 && accepted > 5_000 && circular > 1_000 && not_ordered > 500,
+        "some kind of text was hardly reached"
+    );
     assert!(start.elapsed() < LONGEST, "it took longer than a minute");
 }

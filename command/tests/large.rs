@@ -87,7 +87,10 @@ fn the_longest_table() {
     table += "\nnonterminal second";
     names.iter().for_each(|n| table += &format!(" i.{n}"));
     (2..32).for_each(|x| table += &format!("\nterminal terminal_{x}"));
-    let order: Vec<String> = (1..8).flat_map(|i| names.iter().map(move |n| format!("second#{i}.{n}"))).chain(names.iter().map(|n| format!("first.{n}"))).collect();
+    let order: Vec<String> = (1..8)
+        .flat_map(|i| names.iter().map(move |n| format!("second#{i}.{n}")))
+        .chain(names.iter().map(|n| format!("first.{n}")))
+        .collect();
     for _ in 0..64 {
         table += "\nrule first = second second second second second second second\n";
         table += &format!("  {} = const -32768\n", order[0]);

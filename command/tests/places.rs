@@ -17,8 +17,15 @@ fn each_word_stands_where_it_was_written() {
         let grammar = Grammar::named(Table::of(&reading.words).expect("a table"), &reading);
         let plain = |name: &str, rule: usize| {
             let (symbol, attribute) = name.split_once('.').expect("an occurrence");
-            let header = source.lines[reading.rules[rule].header].split_whitespace().filter(|w| *w == symbol.split('#').next().unwrap_or("")).count();
-            if header == 1 { format!("{}.{attribute}", symbol.split('#').next().unwrap_or("")) } else { name.to_string() }
+            let header = source.lines[reading.rules[rule].header]
+                .split_whitespace()
+                .filter(|w| *w == symbol.split('#').next().unwrap_or(""))
+                .count();
+            if header == 1 {
+                format!("{}.{attribute}", symbol.split('#').next().unwrap_or(""))
+            } else {
+                name.to_string()
+            }
         };
         for (at, &word) in reading.words.iter().enumerate() {
             let place = reading.places[at];
@@ -29,16 +36,23 @@ fn each_word_stands_where_it_was_written() {
                 Role::Left(_) | Role::Right(..) => grammar.symbols[word as usize].name.clone(),
                 Role::Length(_) | Role::Functions(_) => "rule".to_string(),
                 Role::Target(r, _) => plain(&grammar.occurrence(r, word as usize), r),
-                Role::Argument(r, n) if grammar.table.rules[r].functions[n].operation != 0 => plain(&grammar.occurrence(r, word as usize), r),
+                Role::Argument(r, n) if grammar.table.rules[r].functions[n].operation != 0 => {
+                    plain(&grammar.occurrence(r, word as usize), r)
+                }
                 Role::Argument(..) => (word as i16).to_string(),
-                Role::Operation(..) => ["const", "copy", "sum", "difference", "larger", "smaller", "less", "choose", "served"][word as usize].to_string(),
+                Role::Operation(..) => {
+                    ["const", "copy", "sum", "difference", "larger", "smaller", "less", "choose", "served"][word as usize].to_string()
+                }
                 Role::Symbols | Role::Rules | Role::End => continue,
             };
             let there = if there.contains('.') && there.contains('#') {
-                plain(there, match role(&reading.words, at) {
-                    Some(Role::Target(r, _) | Role::Argument(r, _)) => r,
-                    other => panic!("seed {seed}: an occurrence at {other:?}"),
-                })
+                plain(
+                    there,
+                    match role(&reading.words, at) {
+                        Some(Role::Target(r, _) | Role::Argument(r, _)) => r,
+                        other => panic!("seed {seed}: an occurrence at {other:?}"),
+                    },
+                )
             } else {
                 there.to_string()
             };

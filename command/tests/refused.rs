@@ -20,7 +20,11 @@ fn cycles_are_explained() {
         // `list` has the first line where the listing program has it, and the rest on standard error.
         let (first, rest) = expected.split_once('\n').expect("two lines or more");
         let out = run_in(&folder, &["list", name]);
-        assert_eq!((out.status.code(), text(&out.stdout), text(&out.stderr)), (Some(1), format!("{first}\n"), format!("{name}: {rest}")), "{name}");
+        assert_eq!(
+            (out.status.code(), text(&out.stdout), text(&out.stderr)),
+            (Some(1), format!("{first}\n"), format!("{name}: {rest}")),
+            "{name}"
+        );
         let out = run_in(&folder, &["dot", name]);
         assert_eq!((out.status.code(), text(&out.stderr)), (Some(1), format!("{name}: {expected}")), "{name}");
         let arcs = expected.lines().filter(|l| l.starts_with("  ") && !l.starts_with("   ")).count();
@@ -83,11 +87,23 @@ const REFUSED: [(&str, &str, &str); 28] = [
 fn one_to_seven_by_number() {
     for (words, refused, told) in REFUSED {
         let out = run_on(words.as_bytes(), &["explain", "--decimal", "-"]);
-        assert_eq!((out.status.code(), text(&out.stdout), text(&out.stderr)), (Some(1), format!("{refused}\n{told}\n"), String::new()), "{words}");
+        assert_eq!(
+            (out.status.code(), text(&out.stdout), text(&out.stderr)),
+            (Some(1), format!("{refused}\n{told}\n"), String::new()),
+            "{words}"
+        );
         let out = run_on(words.as_bytes(), &["list", "--decimal", "-"]);
-        assert_eq!((out.status.code(), text(&out.stdout), text(&out.stderr)), (Some(1), format!("{refused}\n"), format!("standard input: {told}\n")), "{words}");
+        assert_eq!(
+            (out.status.code(), text(&out.stdout), text(&out.stderr)),
+            (Some(1), format!("{refused}\n"), format!("standard input: {told}\n")),
+            "{words}"
+        );
         let out = run_on(words.as_bytes(), &["dot", "--decimal", "-"]);
-        assert_eq!((out.status.code(), text(&out.stdout), text(&out.stderr)), (Some(1), String::new(), format!("standard input: {refused}\n{told}\n")), "{words}");
+        assert_eq!(
+            (out.status.code(), text(&out.stdout), text(&out.stderr)),
+            (Some(1), String::new(), format!("standard input: {refused}\n{told}\n")),
+            "{words}"
+        );
     }
 }
 
@@ -120,7 +136,10 @@ fn every_word_missing_or_changed() {
 #[test]
 fn odd_bytes_are_refused_as_by_the_listing_program() {
     let out = run_on(&[3, 0, 3], &["explain", "--words", "-"]);
-    assert_eq!((out.status.code(), text(&out.stdout)), (Some(1), "refused 1 1 0\nThe count of bytes is odd: word 1 has one byte of two.\n".to_string()));
+    assert_eq!(
+        (out.status.code(), text(&out.stdout)),
+        (Some(1), "refused 1 1 0\nThe count of bytes is odd: word 1 has one byte of two.\n".to_string())
+    );
     let out = run_on(&to_bytes(&[1, 1, 0, 0, 0, 0, 0, 0, 0]), &["list", "--words", "-"]);
     assert_eq!((out.status.code(), text(&out.stdout)), (Some(0), "plan 1 1\ns 0 1\nr 0 128\n".to_string()));
 }

@@ -16,7 +16,12 @@ fn other_writings_give_the_same_words() {
     tables.push(root().join("examples/g.table"));
     for table in tables {
         let out = run_in(&folder, &["words", "--decimal", table.to_str().expect("a name")]);
-        assert_eq!((out.status.code(), text(&out.stdout), text(&out.stderr)), (Some(0), G.to_string(), String::new()), "{}", table.display());
+        assert_eq!(
+            (out.status.code(), text(&out.stdout), text(&out.stderr)),
+            (Some(0), G.to_string(), String::new()),
+            "{}",
+            table.display()
+        );
     }
 }
 

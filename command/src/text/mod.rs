@@ -2,6 +2,7 @@
 
 mod fault;
 mod meaning;
+mod names;
 mod number;
 mod source;
 mod syntax;

@@ -2,6 +2,7 @@
 //! A line with a mistake keeps what could be read of it, so that one mistake is not reported again at every use of a name.
 
 use super::fault::{quoted, Fault};
+use super::names::{is_name, nearest, not_a_name};
 use super::number::{self, whole};
 use super::source::{Source, Span, Word};
 use crate::limits;
@@ -113,7 +114,8 @@ fn without_comment<'a>(all: &[Word<'a>], faults: &mut Vec<Fault>) -> Vec<Word<'a
     let Some(n) = all.iter().position(|w| w.text.starts_with('#')) else { return all.to_vec() };
     if !all[n].text.trim_start_matches('#').is_empty() {
         let word = quoted(all[n].text);
-        let text = format!("{word}: a comment after other words is # and a blank; a count stands right behind its symbol, as in lines#2.highest");
+        let text =
+            format!("{word}: a comment after other words is # and a blank; a count stands right behind its symbol, as in lines#2.highest");
         faults.push(Fault::new(all[n].at, text));
     }
     all[..n].to_vec()
@@ -309,7 +311,11 @@ fn no_occurrence(text: &str) -> String {
     if let Some((_, digits)) = before.split_once('#').filter(|(symbol, _)| is_name(symbol)) {
         if let Err(why) = whole(digits, &POSITIONS) {
             let why = if digits.is_empty() { "it is missing".to_string() } else { format!("{} {why}", quoted(digits)) };
-            return format!("{}: behind # stands a number from 1 to {}, counted from the left side on; {why}", quoted(text), POSITIONS.end());
+            return format!(
+                "{}: behind # stands a number from 1 to {}, counted from the left side on; {why}",
+                quoted(text),
+                POSITIONS.end()
+            );
         }
     }
     let wrong = [before.split('#').next().unwrap_or(""), attribute].into_iter().find(|part| !is_name(part)).unwrap_or(text);
@@ -321,45 +327,4 @@ fn no_operation(text: &str) -> String {
     let all = names().collect::<Vec<_>>().join(", ");
     let near = nearest(text, names()).map_or(String::new(), |name| format!("; did you mean {name}?"));
     format!("no operation {}: the operations are {all}{near}", quoted(text))
-}
-
-pub fn is_name(text: &str) -> bool {
-    let mut bytes = text.bytes();
-    bytes.next().is_some_and(|b| b.is_ascii_alphabetic() || b == b'_') && bytes.all(|b| b.is_ascii_alphanumeric() || b == b'_')
-}
-
-fn not_a_name(text: &str) -> String {
-    if text.is_empty() {
-        return "a name is missing".to_string();
-    }
-    let odd = text.chars().find(|c| !c.is_ascii()).map_or(String::new(), |c| format!(" (it has the character U+{:04X})", c as u32));
-    format!("{} is no name{odd}: a name has letters a to z and A to Z, digits and underscores, no digit first", quoted(text))
-}
-
-/// The name that a mistyped one is nearest to: of the same letters in another case, or at most two letters away.
-pub fn nearest<'n>(text: &str, names: impl Iterator<Item = &'n str>) -> Option<&'n str> {
-    const FARTHEST: usize = 2;
-    // Long words are no slip of the finger, and comparing them would take long.
-    if text.len() > 64 {
-        return None;
-    }
-    let low = text.to_lowercase();
-    let near = names.map(|name| (distance(&low, &name.to_lowercase()), name)).min_by_key(|(d, _)| *d)?;
-    (near.0 <= FARTHEST && 2 * near.0 < text.len()).then_some(near.1)
-}
-
-/// How many letters have to be put in, left out or changed.
-fn distance(a: &str, b: &str) -> usize {
-    let b: Vec<char> = b.chars().collect();
-    let mut row: Vec<usize> = (0..=b.len()).collect();
-    for (i, x) in a.chars().enumerate() {
-        let mut corner = row[0];
-        row[0] = i + 1;
-        for (j, y) in b.iter().enumerate() {
-            let changed = corner + usize::from(x != *y);
-            corner = row[j + 1];
-            row[j + 1] = changed.min(row[j] + 1).min(corner + 1);
-        }
-    }
-    row[b.len()]
 }

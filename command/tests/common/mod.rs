@@ -57,7 +57,11 @@ pub fn table(rng: &mut Rng) -> String {
     let mut symbols = vec![Symbol { name: "top".to_string(), terminal: false, attributes: attributes(rng, 2, false) }];
     for x in 1..count {
         let terminal = rng.once_in(4);
-        symbols.push(Symbol { name: format!("{}{x}", rng.pick(&["x", "Line", "_", "sum", "s"])), terminal, attributes: attributes(rng, most_attributes, !terminal) });
+        symbols.push(Symbol {
+            name: format!("{}{x}", rng.pick(&["x", "Line", "_", "sum", "s"])),
+            terminal,
+            attributes: attributes(rng, most_attributes, !terminal),
+        });
     }
     let mut out = String::new();
     let start_first = rng.once_in(2);
@@ -113,7 +117,11 @@ fn rule(rng: &mut Rng, symbols: &[Symbol], parts: &[usize], constants: usize, ki
         for (inherited, attribute) in &symbols[x].attributes {
             let number = parts[..i].iter().filter(|&&y| y == x).count() + 1;
             let several = parts.iter().filter(|&&y| y == x).count() > 1;
-            let name = if several || rng.once_in(5) { format!("{}#{number}.{attribute}", symbols[x].name) } else { format!("{}.{attribute}", symbols[x].name) };
+            let name = if several || rng.once_in(5) {
+                format!("{}#{number}.{attribute}", symbols[x].name)
+            } else {
+                format!("{}.{attribute}", symbols[x].name)
+            };
             if *inherited == (i > 0) {
                 defining.push((name.clone(), i));
             }
@@ -142,9 +150,46 @@ fn rule(rng: &mut Rng, symbols: &[Symbol], parts: &[usize], constants: usize, ki
 
 /// Words that are often typed by mistake.
 const SLIPS: [&str; 40] = [
-    "abc", "TRUE", "0b101", "--5", "1,000", "1_000", "1.5", "40000", "-70000", "-0", "007", "#", "#1", "# rule top =", "rule", "start", "start top", "=", "==",
-    "top", "top#1.a0", "top.a0", "s.a", "i.a", "x.y", ".", "..", "\t", "\r", "\r\n", "\n", "\0", "\u{feff}", "ö", "\u{a0}", "const", "served", "terminal x9 s.p",
-    "nonterminal top", "99999999999999999999999",
+    "abc",
+    "TRUE",
+    "0b101",
+    "--5",
+    "1,000",
+    "1_000",
+    "1.5",
+    "40000",
+    "-70000",
+    "-0",
+    "007",
+    "#",
+    "#1",
+    "# rule top =",
+    "rule",
+    "start",
+    "start top",
+    "=",
+    "==",
+    "top",
+    "top#1.a0",
+    "top.a0",
+    "s.a",
+    "i.a",
+    "x.y",
+    ".",
+    "..",
+    "\t",
+    "\r",
+    "\r\n",
+    "\n",
+    "\0",
+    "\u{feff}",
+    "ö",
+    "\u{a0}",
+    "const",
+    "served",
+    "terminal x9 s.p",
+    "nonterminal top",
+    "99999999999999999999999",
 ];
 
 /// A text with a few of its bytes, words or lines changed.
