@@ -149,18 +149,19 @@ impl<'a> Reader<'a, '_> {
             return Line::Symbol(Symbol { terminal, name: None, attributes: Vec::new(), whole: false });
         };
         let name = Some(name).filter(|word| self.is_name(word));
-        let attributes = self.words[2..].iter().filter_map(|word| self.attribute(word)).collect();
+        let attributes = self.words[2..].iter().filter_map(|word| self.attribute(terminal, word)).collect();
         Line::Symbol(Symbol { terminal, name, attributes, whole: self.faults.len() == before })
     }
 
-    fn attribute(&mut self, word: &Word<'a>) -> Option<Attribute<'a>> {
+    fn attribute(&mut self, terminal: bool, word: &Word<'a>) -> Option<Attribute<'a>> {
         let (inherited, name) = match (word.text.strip_prefix("s."), word.text.strip_prefix("i.")) {
             (Some(name), _) => (false, name),
             (_, Some(name)) => (true, name),
             _ => {
                 let name = word.text.rsplit('.').next().filter(|name| is_name(name) && name.len() < 40).unwrap_or("NAME");
-                let forms = format!("s.{name} for a synthesized one (it goes up) or i.{name} for an inherited one (it comes down)");
-                self.fault(word.at, format!("{} is no attribute: write {forms}", quoted(word.text)));
+                let inherited = format!(" for a synthesized one (it goes up) or i.{name} for an inherited one (it comes down)");
+                let inherited = if terminal { "" } else { &inherited };
+                self.fault(word.at, format!("{} is no attribute: write s.{name}{inherited}", quoted(word.text)));
                 return None;
             }
         };
@@ -325,6 +326,12 @@ fn no_occurrence(text: &str) -> String {
 fn no_operation(text: &str) -> String {
     let names = || OPERATIONS.iter().map(|(name, ..)| *name);
     let all = names().collect::<Vec<_>>().join(", ");
-    let near = nearest(text, names()).map_or(String::new(), |name| format!("; did you mean {name}?"));
-    format!("no operation {}: the operations are {all}{near}", quoted(text))
+    let hint = if number::looks_like_one(text) {
+        "; for a constant write const before it".to_string()
+    } else if read_occurrence(text).is_some() {
+        "; to take over an attribute write copy before it".to_string()
+    } else {
+        nearest(text, names()).map_or(String::new(), |name| format!("; did you mean {name}?"))
+    };
+    format!("no operation {}: the operations are {all}{hint}", quoted(text))
 }
