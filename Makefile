@@ -1,5 +1,5 @@
 # make          builds the proved library, the command skarnuth and the listing program (minutes the first time)
-# make install  puts them below PREFIX; DESTDIR, if given, stands before it
+# make install  puts them below PREFIX, an absolute folder; DESTDIR, if given, stands before it
 # make test     passes the tests
 
 PREFIX = /usr/local
@@ -12,6 +12,7 @@ all:
 	bin/build all
 
 install: all
+	@case "$(PREFIX)" in /*) ;; *) echo "make install: PREFIX is an absolute folder, not $(PREFIX)" >&2; exit 2 ;; esac
 	mkdir -p "$(TO)/bin" "$(TO)/include" "$(TO)/lib/pkgconfig"
 	cp "$(MADE)/release/skarnuth" "$(MADE)/listing" "$(TO)/bin/"
 	cp examples/skarnuth.h "$(TO)/include/"

@@ -88,8 +88,8 @@ pub fn of_planning(grammar: &Grammar, planned: &Planned, refusal: Refusal) -> St
     let mut out = match refusal.number {
         CIRCULAR => format!("An attribute depends on itself: {}.\n", which(grammar, refusal)),
         NOT_ORDERED => format!(
-            "The grammar is not ordered: no attribute depends on itself, but all nodes of a symbol are visited in one order, that of its sets, \
-             and this order makes a cycle: {}.\n",
+            "The grammar is not ordered: no attribute depends on itself, but all nodes of a symbol are visited in one order,\n\
+             that of its sets, and this order makes a cycle: {}.\n",
             which(grammar, refusal)
         ),
         _ => return format!("{refusal}\n"),

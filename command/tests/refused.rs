@@ -41,8 +41,8 @@ fn words_get_the_same_by_number() {
     assert_eq!(
         text(&out.stdout),
         "refused 10 0 8\n\
-         The grammar is not ordered: no attribute depends on itself, but all nodes of a symbol are visited in one order, that of its sets, \
-         and this order makes a cycle: n1#1.a0 in rule 0 (word 9), n0 = n1 n1.\n\
+         The grammar is not ordered: no attribute depends on itself, but all nodes of a symbol are visited in one order,\n\
+         that of its sets, and this order makes a cycle: n1#1.a0 in rule 0 (word 9), n0 = n1 n1.\n\
          Names are numbers: n1 is nonterminal 1, t2 terminal 2, a0 attribute 0.\n  \
          n1#1.a0 -> n1#2.a1  rule 0, word 20: by a function\n  \
          n1#2.a1 -> n1#2.a0  rule 0, word 9: by the order of sets, a1 (set 2) before a0 (set 1)\n  \

@@ -108,7 +108,8 @@ impl<'a> Reader<'a, '_> {
                 self.faults.push(Fault::new(line.at, text).beside(vec![whole_line(self.source, at)]));
             }
             Above::Commented(at) => {
-                let text = format!("{lost}; the header above this one is a comment: make this a comment too, or move it below its own header");
+                let text =
+                    format!("{lost}; the header above this one is a comment: make this a comment too, or move it below its own header");
                 self.faults.push(Fault::new(line.at, text).beside(vec![whole_line(self.source, at)]));
             }
         }
