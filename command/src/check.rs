@@ -5,7 +5,7 @@ use crate::grammar::numbers;
 use crate::printer::print;
 use crate::proved::{self, Refusal};
 use crate::table::Table;
-use crate::text::{self, Named};
+use crate::text::{self, Fault, Named, Source, Span};
 use std::collections::HashMap;
 
 /// How a conversion failed its check. None of these has an input that is known.
@@ -29,6 +29,17 @@ impl std::fmt::Display for Unsound {
             Unsound::OtherWords => write!(f, "its words, printed and read again, are others"),
             Unsound::OtherText => write!(f, "its words, printed with its names, say something else"),
         }
+    }
+}
+
+impl Unsound {
+    /// How it is shown: at the word that the proved reader refuses, else at the end of the file.
+    pub fn fault(&self, source: &Source, places: &[Span]) -> Fault {
+        let at = match self {
+            Unsound::Refused(refusal) => places.get(refusal.place).copied(),
+            _ => None,
+        };
+        Fault::new(at.unwrap_or(source.end()), format!("skarnuth's own check of this conversion failed, and nothing is written: {self}"))
     }
 }
 

@@ -1,12 +1,13 @@
-//! The command line: what is asked for, the file that it is asked of, and what is answered.
+//! What the command answers: the file that it is asked of, read and checked, and the proved code's answer with its names.
 
-use crate::check::{self, Unsound};
+use crate::arguments::{plain, request, Form, Request, Task, HELP, USAGE};
+use crate::check;
 use crate::cycle::{CIRCULAR, NOT_ORDERED};
 use crate::grammar::Grammar;
 use crate::limits;
 use crate::proved::{self, Planned, Refusal};
 use crate::table::Table;
-use crate::text::{self, Fault};
+use crate::text;
 use crate::words::{self, Bytes};
 use crate::{dot, explain, list, refusal};
 use std::ffi::{OsStr, OsString};
@@ -27,28 +28,6 @@ pub const ACCEPTED: u8 = 0;
 pub const REFUSED: u8 = 1;
 pub const UNREAD: u8 = 2;
 
-const USAGE: &str = "\
-usage: skarnuth words [--decimal] FILE
-       skarnuth list [--words | --decimal] FILE
-       skarnuth explain [--words | --decimal] FILE
-       skarnuth dot [--words | --decimal] [--rule NUMBER] FILE
-       skarnuth help | version
-";
-
-const HELP: &str = "
-  words     turns a readable table into words: little-endian bytes, or with --decimal numbers
-  list      lists the plan of a table, or why there is none
-  explain   says the plan in words: the visits of each symbol, the sequence of each rule
-  dot       draws the dependencies of each rule, or of one, for graphviz
-  help      prints this
-  version   prints the version
-
-FILE is a readable table (docs/MANUAL.md); - is standard input. For list, explain and dot
---words says that it has words as little-endian bytes, --decimal that it has them in decimal.
-
-Exit status: 0 accepted, 1 refused, 2 for what could not be read or written.
-";
-
 impl Outcome {
     fn accepted(output: impl Into<Vec<u8>>) -> Outcome {
         Outcome { output: output.into(), message: String::new(), status: ACCEPTED }
@@ -63,29 +42,6 @@ impl Outcome {
     }
 }
 
-#[derive(Clone, Copy, PartialEq, Eq)]
-enum Task {
-    Words,
-    List,
-    Explain,
-    Dot,
-}
-
-/// What a file holds.
-#[derive(Clone, Copy, PartialEq, Eq)]
-enum Form {
-    Readable,
-    Words,
-    Decimal,
-}
-
-struct Request {
-    task: Task,
-    form: Form,
-    rule: Option<usize>,
-    file: OsString,
-}
-
 /// Runs the command on the words of its command line.
 pub fn run(line: &[OsString]) -> Outcome {
     match line.first().and_then(|word| word.to_str()) {
@@ -96,60 +52,6 @@ pub fn run(line: &[OsString]) -> Outcome {
             Err(why) => Outcome::unread(format!("skarnuth: {why}\n{USAGE}")),
         },
     }
-}
-
-// The command line.
-
-fn request(line: &[OsString]) -> Result<Request, String> {
-    let task = match line.first().map(|word| word.to_string_lossy()).as_deref() {
-        None => return Err("what to do is missing".to_string()),
-        Some("words") => Task::Words,
-        Some("list") => Task::List,
-        Some("explain") => Task::Explain,
-        Some("dot") => Task::Dot,
-        Some("help" | "--help" | "-h" | "version" | "--version") => return Err("help and version take no more words".to_string()),
-        Some(other) => return Err(format!("no command {}", plain(other))),
-    };
-    let mut form = None;
-    let mut rule = None;
-    let mut files = Vec::new();
-    let mut words = line[1..].iter();
-    let mut options = true;
-    while let Some(word) = words.next() {
-        match word.to_str() {
-            Some("--") if options => options = false,
-            Some("--decimal") if options => once(&mut form, Form::Decimal, "--decimal")?,
-            Some("--words") if options && task != Task::Words => once(&mut form, Form::Words, "--words")?,
-            Some("--rule") if options && task == Task::Dot => once(&mut rule, rule_number(words.next())?, "--rule")?,
-            Some(other) if options && other.len() > 1 && other.starts_with('-') => return Err(format!("no option {} here", plain(other))),
-            _ => files.push(word.clone()),
-        }
-    }
-    match <[OsString; 1]>::try_from(files) {
-        Ok([file]) => Ok(Request { task, form: form.unwrap_or(Form::Readable), rule, file }),
-        Err(files) if files.is_empty() => Err("the file is missing".to_string()),
-        Err(files) => Err(format!("one file at a time, not {}", files.len())),
-    }
-}
-
-fn once<T>(option: &mut Option<T>, value: T, name: &str) -> Result<(), String> {
-    match option.replace(value) {
-        None => Ok(()),
-        Some(_) => Err(format!("{name} comes after another choice of the same kind")),
-    }
-}
-
-fn rule_number(word: Option<&OsString>) -> Result<usize, String> {
-    let text = word.ok_or("--rule takes the number of a rule")?.to_string_lossy();
-    let last = limits::RULES as i64 - 1;
-    let number =
-        text::whole(&text, &(0..=last)).map_err(|why| format!("--rule takes the number of a rule, 0 to {last}; {} {why}", plain(&text)))?;
-    Ok(number as usize)
-}
-
-/// A text without characters that move the cursor.
-fn plain(text: &str) -> String {
-    text.chars().map(|c| if c.is_control() { '\u{fffd}' } else { c }).collect()
 }
 
 // The file.
@@ -203,14 +105,8 @@ fn readable(request: &Request) -> Result<Outcome, Outcome> {
     let bytes = whole_text(&request.file, "no readable table")?;
     let (source, read) = text::read(&name, &bytes);
     let reading = read.map_err(|faults| Outcome::unread(text::shown(&source, &faults)))?;
-    let table = check::conversion(&bytes, &reading.words, &reading.symbols).map_err(|unsound| {
-        let why = format!("skarnuth's own check of this conversion failed, nothing was written: {unsound}");
-        let at = match unsound {
-            Unsound::Refused(refusal) => reading.places.get(refusal.place).copied(),
-            _ => None,
-        };
-        Outcome::unread(text::shown(&source, &[Fault::new(at.unwrap_or(source.end()), why)]))
-    })?;
+    let table = check::conversion(&bytes, &reading.words, &reading.symbols)
+        .map_err(|unsound| Outcome::unread(text::shown(&source, &[unsound.fault(&source, &reading.places)])))?;
     if request.task == Task::Words {
         let decimal = request.form == Form::Decimal;
         return Ok(Outcome::accepted(if decimal {

@@ -1,6 +1,7 @@
 //! The command `skarnuth`: from a readable table to words, plans and explanations. Every plan, set, sequence and refusal comes from the proved
 //! code (`proved`); what is here reads names, checks itself, and puts names to the answers.
 
+pub mod arguments;
 pub mod check;
 pub mod command;
 pub mod cycle;

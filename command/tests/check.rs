@@ -2,7 +2,7 @@
 
 use skarnuth::check::{conversion, Unsound};
 use skarnuth::proved::Refusal;
-use skarnuth::text::read;
+use skarnuth::text::{read, shown};
 
 const SOURCES: &[u8] = include_bytes!("../../examples/sources.table");
 
@@ -48,9 +48,28 @@ fn other_names_are_stopped() {
     assert_eq!(conversion(SOURCES, &reading.words, &fewer).err(), Some(Unsound::OtherText));
 }
 
+/// The message has the line of the word that the proved reader refuses, and what failed.
 #[test]
 fn the_message_says_what_failed() {
-    let refusal = Refusal { number: 6, place: 12, second: 0 };
-    assert_eq!(Unsound::Refused(refusal).to_string(), "the proved reader answers: refused 6 12 0");
-    assert_eq!(Unsound::OtherText.to_string(), "its words, printed with its names, say something else");
+    let (source, read) = read("sources.table", SOURCES);
+    let reading = read.expect("the example");
+    // `source#1.threshold = copy level.threshold` is 17 1 8; with 16 for 17 it is a second function for source#1.number.
+    let at = reading.words.windows(3).position(|w| w == [17, 1, 8]).expect("a copy");
+    let mut words = reading.words.clone();
+    words[at] = 16;
+    let unsound = conversion(SOURCES, &words, &reading.symbols).err().expect("it is stopped");
+    assert_eq!(unsound, Unsound::Refused(Refusal { number: 5, place: at, second: 0 }));
+    assert_eq!(
+        shown(&source, &[unsound.fault(&source, &reading.places)]),
+        format!(
+            "sources.table:13:3: skarnuth's own check of this conversion failed, and nothing is written: the proved reader answers: refused 5 {at} 0\n   \
+             13 |   source#1.threshold = copy level.threshold\n      |   ^^^^^^^^^^^^^^^^^^\n"
+        )
+    );
+    let other = Unsound::OtherText.fault(&source, &reading.places);
+    assert_eq!(
+        other.text,
+        "skarnuth's own check of this conversion failed, and nothing is written: its words, printed with its names, say something else"
+    );
+    assert_eq!(other.at, source.end());
 }

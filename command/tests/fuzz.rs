@@ -4,6 +4,7 @@ mod common;
 
 use common::{damaged, noise, table, Rng};
 use skarnuth::proved::{plan, Refusal};
+use skarnuth::table::Table;
 use skarnuth::{check, cycle, dot, explain, grammar::Grammar, list, refusal, text};
 use std::time::{Duration, Instant};
 
@@ -94,4 +95,41 @@ fn every_text_ends_in_words_or_in_faults() {
         "some kind of text was hardly reached"
     );
     assert!(start.elapsed() < LONGEST, "it took longer than a minute");
+}
+
+/// Words that were damaged or never were a table: each gets a plan or an explanation, by number.
+#[test]
+fn every_list_of_words_ends_in_a_plan_or_an_explanation() {
+    let mut answers = [0u64; 11];
+    for seed in 0..60_000 {
+        let mut rng = Rng::new(seed);
+        let mut words = text::read("fuzz", table(&mut rng).as_bytes()).1.unwrap_or_else(|f| panic!("seed {seed}: {}", f[0].text)).words;
+        for _ in 0..rng.below(4) {
+            let at = rng.below(words.len());
+            match rng.below(5) {
+                0 => words.truncate(at),
+                1 => words.insert(at, rng.below(70) as u16),
+                2 if !words.is_empty() => words[at] = rng.next() as u16,
+                3 if !words.is_empty() => drop(words.remove(at)),
+                _ if !words.is_empty() => words[at] = rng.below(10) as u16,
+                _ => {}
+            }
+        }
+        let planned = plan(&words);
+        answers[planned.refusal.map_or(0, |r| r.number as usize)] += 1;
+        match planned.refusal {
+            Some(refused) if refused.number < 8 => {
+                let told = refusal::of_words(&words, refused);
+                assert!(told.ends_with('\n') && !told.contains("no part of a table"), "seed {seed}: {told}");
+            }
+            other => {
+                let table = Table::of(&words).unwrap_or_else(|| panic!("seed {seed}: words that are read and cannot be taken apart"));
+                let grammar = Grammar::numbered(table);
+                let told = other.map_or_else(|| explain::explained(&grammar, &planned), |r| refusal::of_planning(&grammar, &planned, r));
+                assert!(told.contains("Names are numbers"), "seed {seed}: {told}");
+            }
+        }
+    }
+    println!("60000 lists of words, by refusal: {answers:?}");
+    assert!([0, 1, 2, 3, 4, 5, 6, 7, 9, 10].iter().all(|&n| answers[n] > 50), "some answer was hardly reached: {answers:?}");
 }

@@ -10,9 +10,12 @@ use skarnuth::text::read;
 use skarnuth::words::to_bytes;
 use std::process::Command;
 
+/// Where bin/build puts the listing program.
+const LISTING: &str = "command/target/listing";
+
 fn listed(bytes: &[u8]) -> String {
-    let program = root().join("target/bin/listing");
-    assert!(program.exists(), "target/bin/listing is missing: run `rt check listing` at the repository's root first");
+    let program = root().join(LISTING);
+    assert!(program.exists(), "{LISTING} is missing: run bin/build all at the repository's root first");
     let out = piped(&mut Command::new(program), bytes);
     assert!(out.stderr.is_empty(), "{}", text(&out.stderr));
     text(&out.stdout)
@@ -72,7 +75,7 @@ fn lengths_around_what_is_looked_at() {
 #[test]
 fn what_the_manual_says_of_the_listing_program() {
     let run = |script: &str| {
-        let out = Command::new("sh").current_dir(root()).args(["-c", script, "target/bin/listing"]).output().expect("sh starts");
+        let out = Command::new("sh").current_dir(root()).args(["-c", script, LISTING]).output().expect("sh starts");
         (out.status.code(), text(&out.stdout), text(&out.stderr))
     };
     let unreadable = (Some(0), String::new(), "listing: standard input cannot be read\n".to_string());
