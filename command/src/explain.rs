@@ -4,6 +4,7 @@ use crate::grammar::{Grammar, NUMBERED};
 use crate::limits::{ATTRIBUTES, FIRST_LEAVE, FIRST_VISIT};
 use crate::list::visits;
 use crate::proved::Planned;
+use crate::table::Table;
 use std::fmt::Write as _;
 
 pub fn explained(grammar: &Grammar, planned: &Planned) -> String {
@@ -23,18 +24,30 @@ pub fn explained(grammar: &Grammar, planned: &Planned) -> String {
     out
 }
 
+/// What document 01 takes for granted of a symbol and does not test: that a tree has it.
+fn unused(table: &Table, x: usize) -> &'static str {
+    let expanded = table.symbols[x].terminal || table.rules.iter().any(|rule| rule.symbols[0] == x);
+    let stands = x == table.start || table.rules.iter().any(|rule| rule.symbols[1..].contains(&x));
+    match (expanded, stands) {
+        (true, true) => "",
+        (false, _) => " (no rule has it on its left side: no tree can have it)",
+        (true, false) => " (no rule has it on its right side: no tree can have it)",
+    }
+}
+
 fn symbol(grammar: &Grammar, planned: &Planned, x: usize) -> String {
     let (symbol, named) = (&grammar.table.symbols[x], &grammar.symbols[x]);
+    let unused = unused(&grammar.table, x);
     if symbol.terminal {
         let with = if named.attributes.is_empty() {
             "without attributes".to_string()
         } else {
             format!("the tree brings {}", named.attributes.join(", "))
         };
-        return format!("{}: a terminal, {with}\n", named.name);
+        return format!("{}: a terminal, {with}{unused}\n", named.name);
     }
     let count = visits(&grammar.table, planned, x);
-    let mut out = format!("{}: {count} visit{}\n", named.name, if count == 1 { "" } else { "s" });
+    let mut out = format!("{}: {count} visit{}{unused}\n", named.name, if count == 1 { "" } else { "s" });
     for visit in 1..=count {
         let (down, up) = (carried(grammar, planned, x, visit, true), carried(grammar, planned, x, visit, false));
         let _ = writeln!(out, "  visit {visit}: {down}; {up}");

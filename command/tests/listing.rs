@@ -75,7 +75,8 @@ fn lengths_around_what_is_looked_at() {
 #[test]
 fn what_the_manual_says_of_the_listing_program() {
     let run = |script: &str| {
-        let out = Command::new("sh").current_dir(root()).args(["-c", script, LISTING]).output().expect("sh starts");
+        // Without an environment, which would count as stack.
+        let out = Command::new("sh").env_clear().current_dir(root()).args(["-c", script, LISTING]).output().expect("sh starts");
         (out.status.code(), text(&out.stdout), text(&out.stderr))
     };
     let unreadable = (Some(0), String::new(), "listing: standard input cannot be read\n".to_string());

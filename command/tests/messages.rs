@@ -1,4 +1,5 @@
-//! Every wrong table of tests/wrong ends in its message, word for word, in exit status 2, and in no words.
+//! Every wrong table of tests/wrong ends in its message, word for word, in exit status 2, and in no words. A new table wants its message beside it:
+//! in tests/wrong, `skarnuth words NAME.table 2> NAME.stderr`, and then read it.
 
 #[path = "common/run.rs"]
 mod run;
