@@ -80,6 +80,13 @@ rm broken; once; calls 'staticlib cargo ' 'after a failure'
 if bin/build wrong 2> said; then fail "takes any word"; fi
 grep -q '^usage: bin/build' said || fail "has no usage"
 
+# Two at once: the second waits for the first, and finds nothing to do.
+echo more >> crates/one/src/lib.rt
+bin/build 2> /dev/null & first=$!
+bin/build 2> /dev/null & second=$!
+wait "$first" && wait "$second" || fail "two at once"
+! command -v flock > /dev/null || calls 'staticlib cargo ' 'two at once'
+
 # The commands hand over their words and the status, from any folder.
 cd "$folder"
 status=0; "$tree/bin/list" 'a b' > out || status=$?
