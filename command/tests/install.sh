@@ -32,8 +32,8 @@ for program in claim_c claim_cpp claim_rs; do
 done
 
 # Staged, as packagers do: the files are below DESTDIR and speak of PREFIX alone.
-make -s -C "$root" install DESTDIR="$folder/stage" PREFIX=/opt/skarnuth
-[ "$(sed -n 's/^prefix=//p' "$folder/stage/opt/skarnuth/lib/pkgconfig/skarnuth.pc")" = /opt/skarnuth ]
+make -s -C "$root" install DESTDIR="$folder/stage" PREFIX=/elsewhere/skarnuth
+[ "$(sed -n 's/^prefix=//p' "$folder/stage/elsewhere/skarnuth/lib/pkgconfig/skarnuth.pc")" = /elsewhere/skarnuth ]
 if make -s -C "$root" install PREFIX=here 2> said; then echo "install.sh: a folder that is not absolute is taken" >&2; exit 1; fi
 grep -q '^make install: PREFIX is an absolute folder, not here$' said
 echo "installed files: C, C++ and Rust build against them"
