@@ -1,10 +1,10 @@
 -- The claims of document 01's checked examples that are marked P, one field a claim.
 -- Assumes nothing.
-use Prim.Native.Nat.{ℕ, _+_, _*_}
+use Prim.Native.Nat.{ℕ}
 use mathlib.Core.Path.{_≡_}
 use mathlib.Core.List.{List, [], _∷_, _++_}
 use lib.IntN.{ℤ, pos}
-use lib.ListN.{length, take, set}
+use lib.ListN.{take, set}
 use Rattle.values.specs.Value.{result, greatest}
 use Rattle.refusals.specs.declared.Refusal.the-variants.{EndsEarly, OutOfRange, LeftOver, CircularIdp, CircularEdp}
 use Rattle.grammar.specs.Limits.{mostRules, rowWords, planWords}
@@ -14,8 +14,7 @@ use Rattle.sets.specs.Visits.{visits}
 use Rattle.grammar.specs.declared.Verdict.the-variants.{Good}
 use Rattle.trees.specs.Checking.{checkTree}
 use Rattle.trees.specs.Equations.{valueAt}
-use Rattle.planning.specs.Answer.{Outcome, untouched, circularIdp, unordered, accepted, outcome, acceptedPlan}
-use Rattle.running.specs.declared.Ran.{Ran}
+use Rattle.planning.specs.Answer.{Outcome, untouched, circularIdp, unordered, outcome, acceptedPlan}
 use Rattle.running.specs.declared.Ran.the-variants.{Done, Stopped}
 use Rattle.running.specs.Run.{ran}
 use Rattle.text.specs.Listing.{tableText}

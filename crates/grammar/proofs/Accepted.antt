@@ -1,30 +1,26 @@
 -- A table that the reader accepts is well formed: each fact is one of the tests that passed.
 -- Assumes nothing.
-use Prim.Native.Nat.{ℕ, zero, suc, _+_, _*_, _^_, _/_, _%_, _≤_, _<_}
-use mathlib.Core.Path.{_≡_, refl, sym, _∙_, ap, subst}
+use Prim.Native.Nat.{ℕ, zero, suc, _+_, _^_, _≤_, _<_}
+use mathlib.Core.Path.{_≡_, refl, subst}
 use mathlib.Core.Logic.{_⊎_, ⊎-elim}
-use mathlib.Core.Bool.{Bool, true, false, cond, not}
+use mathlib.Core.Bool.{Bool, true, false, cond}
 use mathlib.Core.List.{List}
 use native.Mathlib.Omega.{arith}
 use lib.Dec.{T, ltb, leb, eqb, ltb→lt, leb→le, eqb→eq, T-not}
 use lib.ListN.{length}
-use Rattle.basics.specs.Tests.{_and_, _or_, _implies_, some, all}
+use Rattle.basics.specs.Tests.{_and_, _or_, _implies_}
 use Rattle.basics.specs.Lists.{word}
 use Rattle.basics.proofs.TestLaws.{
-    and-left, and-right, or-cases, some-at, some-find, all-at, implies-use, eq-T, T-true, true-T, below-or-not, tested
+    and-left, and-right, or-cases, some-at, some-find, all-at, implies-use, eq-T, T-true, true-T, below-or-not
 }
-use Rattle.refusals.specs.declared.Refusal.the-variants.{
-    EndsEarly, OutOfRange, WrongClass, NoOccurrence, NotDefining, Undefined, LeftOver
-}
-use Rattle.grammar.specs.declared.Verdict.{Verdict}
+use Rattle.refusals.specs.declared.Refusal.the-variants.{EndsEarly, OutOfRange, WrongClass, Undefined, LeftOver}
 use Rattle.grammar.specs.declared.Verdict.the-variants.{Good}
 use Rattle.grammar.specs.Limits.{
     mostSymbols, mostRules, mostAttributes, longestRight, mostFunctions, lastOperation, mostOccurrences
 }
 use Rattle.grammar.specs.Table.{
-    symbols, rules, start, symbolAt, kind, attributes, mask, nonterminal, argumentWords, isConstant, lengthAt, functionsAt,
-    functionAt, functionOf, functions, ruleAt, rightLength, symbolOf, arguments, target, operation, argument, occurrence, defining,
-    position, attribute
+    symbols, rules, start, symbolAt, kind, attributes, mask, nonterminal, argumentWords, isConstant, lengthAt, functionsAt, functionAt,
+    functionOf, functions, ruleAt, rightLength, symbolOf, arguments, target, operation, argument, occurrence, defining, position
 }
 use Rattle.grammar.specs.Verdicts.{_then_, unless, each}
 use Rattle.grammar.specs.Reading.{

@@ -1,20 +1,18 @@
 -- A well-formed table is accepted: every word is there and every test passes. With `accepted`, the two say the same.
 -- Assumes nothing.
-use Prim.Native.Nat.{ℕ, zero, suc, _+_, _*_, _^_, _≤_, _<_}
-use mathlib.Core.Path.{_≡_, refl, sym, _∙_, ap, subst, subst⁻¹}
-use mathlib.Core.Logic.{_⊎_, inl, inr, ⊎-elim, _↔_}
-use mathlib.Core.Bool.{Bool, true, false, cond, not}
+use Prim.Native.Nat.{ℕ, zero, suc, _+_, _^_, _≤_, _<_}
+use mathlib.Core.Path.{_≡_, refl, subst⁻¹}
+use mathlib.Core.Logic.{⊎-elim, _↔_}
+use mathlib.Core.Bool.{Bool, true, false, cond}
 use mathlib.Core.List.{List}
 use native.Mathlib.Omega.{arith}
-use lib.Dec.{T, ltb, leb, eqb, lt→ltb, le→leb, eqb→eq, not-T}
+use lib.Dec.{T, eqb, lt→ltb, le→leb, eqb→eq, not-T}
 use lib.ListN.{length}
 use borrow.Author.Tests.{eqb-false}
-use Rattle.basics.specs.Tests.{_and_, _or_, _implies_, some, all}
-use Rattle.basics.specs.Lists.{word}
+use Rattle.basics.specs.Tests.{_or_, _implies_, some}
 use Rattle.basics.proofs.TestLaws.{
     and-intro, or-left, or-right, some-at, some-find, all-intro, implies-intro, eq-T, tested, T-false, true-T
 }
-use Rattle.grammar.specs.declared.Verdict.{Verdict}
 use Rattle.grammar.specs.declared.Verdict.the-variants.{Good}
 use Rattle.grammar.specs.Limits.{
     mostSymbols, mostRules, mostAttributes, longestRight, mostFunctions, lastOperation, mostOccurrences
@@ -23,7 +21,6 @@ use Rattle.grammar.specs.Table.{
     symbols, rules, start, symbolAt, kind, attributes, mask, nonterminal, argumentWords, isConstant, lengthAt, functionsAt,
     functionAt, functionOf, functions, ruleAt, rightLength, symbolOf, arguments, target, operation, argument, occurrence, defining
 }
-use Rattle.grammar.specs.Verdicts.{_then_, unless, each}
 use Rattle.grammar.specs.Reading.{
     present, ranged, header, symbolFault, startClass, leftFault, definedBelow, argumentFault, functionFault, bodyFault, complete,
     ruleBefore, ruleFault, leftOver, readTable
@@ -31,7 +28,7 @@ use Rattle.grammar.specs.Reading.{
 use Rattle.grammar.specs.WellFormed.{SymbolFormed, RuleFormed, FunctionFormed, WellFormed}
 use Rattle.grammar.proofs.VerdictLaws.{then-good, unless-good, each-good}
 use Rattle.grammar.proofs.Accepted.{accepted, defining-occurs}
-use Rattle.grammar.proofs.Places.{argument-words, functions-rise, function-step, rule-step, rules-rise}
+use Rattle.grammar.proofs.Places.{functions-rise, function-step, rule-step, rules-rise}
 
 module _ (g : List ℕ) (w : WellFormed g) where
   is-present : (p : ℕ) → p < length g → present g p ≡ Good

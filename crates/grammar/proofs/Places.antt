@@ -1,8 +1,8 @@
 -- Where rules and functions stand: each later one further on, all of them before the end, and no table over 25,315 words.
 -- Assumes nothing.
 use Prim.Native.Nat.{ℕ, zero, suc, _+_, _*_, _≤_, _<_}
-use mathlib.Core.Path.{_≡_, refl, sym, _∙_, ap, subst}
-use mathlib.Core.Logic.{_⊎_, ⊎-elim}
+use mathlib.Core.Path.{_≡_}
+use mathlib.Core.Logic.{⊎-elim}
 use mathlib.Core.Bool.{Bool, true, false, cond}
 use mathlib.Core.List.{List}
 use native.Mathlib.Omega.{arith}
@@ -10,10 +10,8 @@ use lib.Dec.{leb, eqb}
 use lib.ListN.{length}
 use Rattle.basics.specs.Lists.{word}
 use Rattle.basics.proofs.TestLaws.{below-suc}
-use Rattle.grammar.specs.Limits.{mostSymbols, mostRules, longestTable}
-use Rattle.grammar.specs.Table.{
-    symbols, rules, symbolAt, argumentWords, lengthAt, functionsAt, functionAt, ruleAt, rightLength, functions, operation
-}
+use Rattle.grammar.specs.Limits.{longestTable}
+use Rattle.grammar.specs.Table.{rules, argumentWords, lengthAt, functionsAt, functionAt, ruleAt, rightLength, functions}
 use Rattle.grammar.specs.declared.Verdict.the-variants.{Good}
 use Rattle.grammar.specs.Reading.{readTable}
 use Rattle.grammar.specs.WellFormed.{WellFormed, RuleFormed}

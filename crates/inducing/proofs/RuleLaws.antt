@@ -1,21 +1,20 @@
 -- A rule of an accepted table, found by its offset: it starts where the table says, its symbols and functions fit, and the set of its
 -- occurrences has exactly them. Assumes nothing.
-use Prim.Native.Nat.{ℕ, zero, suc, _+_, _*_, _/_, _%_, _^_, _≤_, _<_}
+use Prim.Native.Nat.{ℕ, _+_, _*_, _^_, _≤_, _<_}
 use mathlib.Core.Path.{_≡_, refl, sym, _∙_, ap, subst, subst⁻¹}
 use mathlib.Core.Bool.{Bool}
-use mathlib.Core.List.{List, _++_}
+use mathlib.Core.List.{List}
 use native.Mathlib.Omega.{arith}
 use lib.Dec.{T, lt→ltb}
-use lib.ListN.{length, getD, replicate, List·getD-append}
-use Rattle.bits.specs.Bit.{hasb, collect}
+use lib.ListN.{getD, List·getD-append}
+use Rattle.bits.specs.Bit.{hasb}
 use Rattle.bits.proofs.CollectLaws.{collect-lt}
 use Rattle.bits.proofs.MemberLaws.{hasb-collect, hasb-below}
-use Rattle.basics.specs.Lists.{word, tabulate, padded}
+use Rattle.basics.specs.Lists.{tabulate, padded}
 use Rattle.basics.proofs.ListLaws.{length-tabulate, getD-tabulate}
 use Rattle.grammar.specs.declared.Verdict.the-variants.{Good}
 use Rattle.grammar.specs.Table.{
-    symbols, rules, attributes, lengthAt, functionAt, functionsAt, functions, ruleAt, rightLength, symbolOf, target, operation, argument, arguments,
-    occurrence, ruleCounts
+    rules, attributes, functionsAt, functions, ruleAt, rightLength, symbolOf, target, operation, argument, arguments, occurrence, ruleCounts
 }
 use Rattle.grammar.specs.Reading.{readTable}
 use Rattle.grammar.specs.WellFormed.{WellFormed, SymbolFormed}
@@ -24,9 +23,9 @@ use Rattle.grammar.proofs.Places.{rules-rise, no-longer-table}
 use Rattle.relations.specs.Paper.{DP, Stands}
 use Rattle.relations.proofs.Occurrences.{occurs-below, dp-argument, stands-occurs}
 use Rattle.reader.specs.Offsets.{offsetsFor}
-use Rattle.reader.specs.Places.{symbolFrom, occurrencesAt, Shaped}
+use Rattle.reader.specs.Places.{occurrencesAt}
 use Rattle.reader.proofs.Same.{symbol-same, occurrences-same}
-use Rattle.inducing.specs.Arcs.{argumentsAt, FunctionArc, RuleArc, FunctionFits, Ruled, FunctionsFit}
+use Rattle.inducing.specs.Arcs.{argumentsAt, RuleArc, Ruled, FunctionsFit}
 use Rattle.inducing.specs.Rules.{occurrencesOf}
 
 -- the offsets name each rule's first word

@@ -1,17 +1,17 @@
 -- Words that are cleared one after the other, and two states that are compared word by word.
 -- Assumes nothing.
-use Prim.Native.Nat.{ℕ, zero, suc, _+_, _*_, _≤_, _<_}
-use mathlib.Core.Path.{_≡_, refl, sym, _∙_, ap, subst, subst⁻¹}
-use mathlib.Core.Logic.{_⊎_, inl, inr, ⊎-elim}
-use mathlib.Core.Bool.{Bool, true, false, not}
+use Prim.Native.Nat.{ℕ, zero, _+_, _*_, _≤_, _<_}
+use mathlib.Core.Path.{_≡_, refl, sym, _∙_, subst, subst⁻¹}
+use mathlib.Core.Logic.{⊎-elim}
+use mathlib.Core.Bool.{Bool, true, false}
 use mathlib.Core.List.{List}
 use native.Mathlib.Omega.{arith}
-use lib.Dec.{T, eqb, eqb→eq, not-T}
+use lib.Dec.{eqb, eqb→eq, not-T}
 use lib.ListN.{length, getD, set, length-set}
 use lib.Seq.{getD-set-same, getD-set-other, ext-getD}
 use Rattle.basics.specs.Tests.{all}
 use Rattle.basics.specs.Lists.{word}
-use Rattle.basics.proofs.TestLaws.{below-suc, same-or-not, all-at, all-intro, true-T, T-true, T-false, eq-T}
+use Rattle.basics.proofs.TestLaws.{below-suc, all-at, all-intro, true-T, T-true, T-false, eq-T}
 use Rattle.grammar.specs.Table.{rules}
 use Rattle.inducing.specs.Rules.{Cleared}
 

@@ -1,14 +1,12 @@
 -- The search for a cycle names the lowest rule and in it the lowest occurrence that lies on one, and misses none.
 -- Assumes nothing.
 use Prim.Native.Nat.{ℕ, _<_}
-use mathlib.Core.Path.{_≡_}
 use mathlib.Core.Logic.{_↔_}
 use mathlib.Core.Bool.{Bool, not}
 use mathlib.Core.List.{List}
-use native.Mathlib.Omega.{arith}
 use lib.Dec.{T, ltb→lt, T-not}
-use Rattle.basics.specs.Tests.{_and_, some, least}
-use Rattle.basics.proofs.TestLaws.{and-intro, and-left, and-right, some-at, some-find, Least, least-is, least-some}
+use Rattle.basics.specs.Tests.{some}
+use Rattle.basics.proofs.TestLaws.{and-intro, and-left, and-right, some-at, least-is, least-some}
 use Rattle.grammar.specs.Limits.{mostOccurrences}
 use Rattle.grammar.specs.Table.{rules, ruleCounts}
 use Rattle.ordered.specs.Paper.{LowestCycle}

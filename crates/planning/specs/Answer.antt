@@ -1,10 +1,9 @@
 -- Document 01, refusals 8 to 11, and what planning answers and leaves in the lent buffers for every input.
 -- Computed: no demand rests on it. Assumes nothing.
-use Prim.Native.Nat.{ℕ, _+_, _*_}
-use mathlib.Core.Bool.{Bool, true, false, cond, not}
+use Prim.Native.Nat.{ℕ}
+use mathlib.Core.Bool.{Bool, cond}
 use mathlib.Core.List.{List}
 use lib.Dec.{leb}
-use lib.ListN.{length}
 use Rattle.basics.specs.Tests.{_and_, some, least}
 use Rattle.refusals.specs.declared.Refusal.{Refusal}
 use Rattle.refusals.specs.declared.Refusal.the-variants.{TooShort, CircularIdp, CircularEdp, Stuck}

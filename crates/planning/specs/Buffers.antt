@@ -1,12 +1,12 @@
 -- Document 01, "Lent buffers": the words of rows and plan.
 -- Computed: no demand rests on it. Assumes nothing.
-use Prim.Native.Nat.{ℕ, _+_, _*_, _-_}
+use Prim.Native.Nat.{ℕ}
 use mathlib.Core.Bool.{Bool}
-use mathlib.Core.List.{List, [], _∷_, _++_}
+use mathlib.Core.List.{List, _∷_, _++_}
 use lib.ListN.{length, drop}
 use Rattle.bits.specs.Bit.{collect}
 use Rattle.basics.specs.Lists.{tabulate, blocks, padded}
-use Rattle.grammar.specs.Limits.{mostOccurrences, ruleWords, rowWords, planWords}
+use Rattle.grammar.specs.Limits.{mostOccurrences, ruleWords}
 use Rattle.grammar.specs.Table.{rules}
 
 -- a buffer whose first words are written and whose others stay

@@ -1,16 +1,15 @@
 -- The loop over the rules: after r of them the next starts where the definition says, the offsets of those before it stand in their places,
 -- and the set says whether the rule just read is complete. Assumes nothing.
-use Prim.Native.Nat.{ℕ, suc, _+_, _-_, _*_, _≤_, _<_}
+use Prim.Native.Nat.{ℕ, suc, _+_, _*_, _≤_, _<_}
 use mathlib.Core.Path.{_≡_, refl, sym, _∙_, ap, ap₂}
 use mathlib.Core.Bool.{Bool}
-use mathlib.Core.List.{List, [], _++_}
+use mathlib.Core.List.{List}
 use native.Mathlib.Omega.{arith}
 use native.Mathlib.Numerals.{add-one}
 use lib.Dec.{leb, eqb}
 use lib.ListN.{length, set, replicate}
-use lib.Seq.{set-at, append-snoc}
 use Rattle.basics.specs.Lists.{tabulate, padded}
-use Rattle.basics.proofs.ListLaws.{padded-none, padded-more, length-tabulate}
+use Rattle.basics.proofs.ListLaws.{padded-none, padded-more}
 use Rattle.refusals.specs.declared.Refusal.{Refusal}
 use Rattle.refusals.specs.declared.Refusal.the-variants.{Undefined, LeftOver}
 use Rattle.grammar.specs.declared.Verdict.{Verdict}

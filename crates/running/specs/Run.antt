@@ -1,16 +1,13 @@
 -- Document 01: a run with a budget, and what it answers and leaves in the lent buffers for every input.
 -- Computed: no demand rests on it. Assumes nothing.
-use Prim.Native.Nat.{ℕ, zero, suc, _+_}
-use mathlib.Core.Bool.{Bool, true, false, cond}
+use Prim.Native.Nat.{ℕ, zero, suc}
+use mathlib.Core.Bool.{Bool, true, false}
 use mathlib.Core.List.{List, [], _∷_}
 use lib.IntN.{ℤ}
-use lib.ListN.{length}
 use Rattle.grammar.specs.declared.Verdict.{Verdict}
 use Rattle.grammar.specs.declared.Verdict.the-variants.{Good, Refused}
-use Rattle.trees.specs.Tree.{nodes, ruleOf, appliesRule}
 use Rattle.planning.specs.Answer.{Outcome, untouched, circularIdp, unordered, accepted}
 use Rattle.running.specs.declared.Ran as R
-use Rattle.planning.specs.Sequences.{sequenceLength}
 use Rattle.running.specs.Automaton.{Machine, started, step}
 
 -- a run comes to its end, or its budget does

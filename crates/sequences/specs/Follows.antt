@@ -1,7 +1,7 @@
 -- Document 01: which action follows which.
 -- Computed: no demand rests on it. Assumes nothing.
 use Prim.Native.Nat.{ℕ, suc}
-use mathlib.Core.Bool.{Bool, true, false, not}
+use mathlib.Core.Bool.{Bool, false, not}
 use mathlib.Core.List.{List}
 use lib.Dec.{eqb}
 use Rattle.basics.specs.Tests.{_and_, _or_, some}

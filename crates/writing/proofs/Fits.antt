@@ -1,13 +1,13 @@
 -- Every listing fits the buffer of the program: none is longer than 28,365 bytes. So what the program writes is the whole text.
 -- Assumes nothing.
-use Prim.Native.Nat.{ℕ, zero, suc, _+_, _*_, _-_, _/_, _%_, _^_, _≤_, _<_}
-use mathlib.Core.Path.{_≡_, refl, sym, _∙_, ap, subst, subst⁻¹}
+use Prim.Native.Nat.{ℕ, zero, suc, _+_, _*_, _/_, _%_, _^_, _≤_, _<_}
+use mathlib.Core.Path.{_≡_, refl, ap}
 use mathlib.Core.Logic.{⊎-elim}
 use mathlib.Core.Bool.{Bool, true, false, cond}
 use mathlib.Core.List.{List, [], _∷_, _++_}
 use native.Mathlib.Omega.{arith}
 use native.Mathlib.Nat.{pow-suc}
-use lib.Dec.{T, ltb, eqb, lt→ltb}
+use lib.Dec.{ltb, eqb, lt→ltb}
 use lib.ListN.{length, getD, take, length-append}
 use Rattle.basics.specs.Lists.{tabulate, blocks}
 use Rattle.basics.proofs.TestLaws.{tested, chosen, passed-over}

@@ -1,14 +1,13 @@
 -- How the code types a line: digit by digit, number by number.
 -- Assumes nothing.
-use Prim.Native.Nat.{ℕ, zero, suc, _+_, _-_, _/_, _%_, _≤_, _<_}
+use Prim.Native.Nat.{ℕ, suc, _+_, _-_, _/_, _%_, _≤_, _<_}
 use mathlib.Core.Path.{_≡_, refl, sym, _∙_, ap, subst, subst⁻¹}
-use mathlib.Core.Bool.{Bool, true, false, cond}
 use mathlib.Core.List.{List, [], _∷_, _++_, append-assoc, append-nil}
 use native.Mathlib.Omega.{arith}
 use native.Mathlib.Numerals.{add-one}
-use lib.Dec.{T, ltb, lt→ltb, ltb→lt, not-T}
+use lib.Dec.{ltb, lt→ltb, ltb→lt, not-T}
 use lib.ListN.{length, getD, take}
-use lib.Seq.{take-suc, take-length, take-all}
+use lib.Seq.{take-suc, take-all}
 use Rattle.basics.specs.Lists.{tabulate, blocks}
 use Rattle.basics.proofs.TestLaws.{chosen, passed-over}
 use Rattle.refusals.specs.declared.Refusal.{Refusal}

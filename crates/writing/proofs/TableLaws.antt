@@ -1,29 +1,27 @@
 -- From bytes to words, and from what planning answers to what is listed.
 -- Assumes nothing.
-use Prim.Native.Nat.{ℕ, zero, suc, _+_, _*_, _-_, _/_, _%_, _≤_, _<_, min}
+use Prim.Native.Nat.{ℕ, suc, _+_, _*_, _/_, _%_, _≤_, _<_, min}
 use mathlib.Core.Logic.{⊎-elim}
-use mathlib.Core.Path.{_≡_, refl, sym, _∙_, ap, ap₂, subst, subst⁻¹}
-use mathlib.Core.Bool.{Bool, true, false, cond, not}
-use mathlib.Core.List.{List, [], _∷_, _++_}
+use mathlib.Core.Path.{_≡_, refl, sym, _∙_, ap, ap₂, subst}
+use mathlib.Core.List.{List, _++_}
 use native.Mathlib.Omega.{arith}
 use native.Mathlib.Numerals.{add-one}
-use lib.Dec.{T, eqb, eqb→eq, not-T}
-use lib.ListN.{length, getD, take, drop, set, length-append, length-drop, length-set}
+use lib.Dec.{eqb, eqb→eq, not-T}
+use lib.ListN.{length, getD, take, drop, set, length-append, length-set}
 use lib.Seq.{drop-cons, set-at, append-snoc, take-all, take-at, length-take-le}
 use Rattle.basics.specs.Lists.{word, tabulate}
 use Rattle.basics.proofs.TestLaws.{chosen, passed-over, eq-T, below-or-not}
 use Rattle.basics.proofs.ListLaws.{length-tabulate}
 use Rattle.refusals.specs.declared.Refusal.{Refusal}
 use Rattle.refusals.specs.declared.Refusal.the-variants.{EndsEarly}
-use Rattle.grammar.specs.Limits.{mostRules, rowWords, planWords}
 use Rattle.grammar.specs.declared.Verdict.the-variants.{Good}
 use Rattle.grammar.specs.Reading.{readTable}
 use Rattle.planning.specs.declared.Planned as P
 use Rattle.planning.specs.Buffers.{over}
-use Rattle.planning.specs.Answer.{Outcome, untouched, circularIdp, unordered, accepted, outcome, answerOf, planAfter, acceptedPlan}
+use Rattle.planning.specs.Answer.{Outcome, untouched, circularIdp, unordered, accepted, outcome, answerOf, planAfter}
 use Rattle.planner.specs.Answered.{Answered}
 use Rattle.planner.proofs.AcceptedLaws.{is-accepted, both-good}
-use Rattle.text.specs.Listing.{refusalLine, outcomeText, tableText, planText, wordsOf, mostBytes, bytesText, listing}
+use Rattle.text.specs.Listing.{refusalLine, outcomeText, tableText, planText, wordsOf, bytesText, listing}
 use Rattle.writing.specs.Shown.{Shows, Adds, planLines}
 use Rattle.writing.proofs.ShownLaws.{from-start}
 use Rattle.writing.proofs.PlanLaws.{lines-of-plan}

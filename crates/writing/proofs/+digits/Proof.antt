@@ -1,9 +1,4 @@
-use Rattle.writing.specs.Shown.{Adds}
 use Rattle.writing.proofs.LineLaws as line
-use Rattle.writing.proofs.ShownLaws as shown
-use Prim.Native.Nat.{_-_, _+_, _*_}
-use lib.ListN.{length, take}
-use mathlib.Core.Path.{sym}
 use native.Mathlib.Omega.{arith}
 use borrow.Author.Needs.{needs}
 use Prim.Native.Nat.{ℕ, _<_}

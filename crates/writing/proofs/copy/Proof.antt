@@ -1,16 +1,10 @@
 use Rattle.writing.specs.Shown.{Adds}
 use Rattle.writing.proofs.LineLaws as line
-use Rattle.writing.proofs.ShownLaws as shown
-use Prim.Native.Nat.{_-_, _+_, _*_}
-use lib.ListN.{length, take}
-use mathlib.Core.Path.{sym}
-use native.Mathlib.Omega.{arith}
+use Prim.Native.Nat.{_-_}
+use lib.ListN.{take}
 use borrow.Author.Needs.{needs}
 use Rattle.writing.proofs.copy.Statement.{statement}
 use Rattle.writing.proofs.copy.Tie as tie
-use Rattle.writing.proofs.copy.Reads as reads
-use Rattle.writing.proofs.copy.Lts as lts
-use Rattle.writing.proofs.put.Reads as put-reads
 
 abbrev Inv-loop : tie.InvT-loop
 Inv-loop out₀ at word to₀ i₀ i-end out to i = Adds out₀ to₀ (take i word) out to

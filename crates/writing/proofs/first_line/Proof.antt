@@ -1,16 +1,7 @@
-use Rattle.writing.specs.Shown.{Adds, ruleLineOf}
-use Rattle.writing.proofs.LineLaws as line
 use Rattle.writing.proofs.PlanLaws as plans
-use Rattle.writing.proofs.ShownLaws as shown
 use borrow.Author.Needs.{needs}
 use Rattle.writing.proofs.first_line.Statement.{statement}
 use Rattle.writing.proofs.first_line.Tie as tie
-use Rattle.writing.proofs.first_line.Reads as reads
-use Rattle.writing.proofs.first_line.Lts as lts
-use Rattle.reader.proofs.word.Reads as word-reads
-use Rattle.writing.proofs.copy.Reads as copy-reads
-use Rattle.writing.proofs.number.Reads as number-reads
-use Rattle.writing.proofs.put.Reads as put-reads
 
 -- src/lib.rt:78:31
 slice-aggregate-copy : tie.Need-slice-aggregate-copy

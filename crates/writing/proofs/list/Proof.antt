@@ -1,15 +1,8 @@
 use Rattle.writing.proofs.TableLaws as table
-use Prim.Native.Nat.{_-_, _+_, _*_, _≤_}
-use lib.ListN.{length, take}
-use native.Mathlib.Omega.{arith}
 use mathlib.Core.Path.{refl}
 use borrow.Author.Needs.{needs}
 use Rattle.writing.proofs.list.Statement.{statement}
 use Rattle.writing.proofs.list.Tie as tie
-use Rattle.writing.proofs.list.Reads as reads
-use Rattle.writing.proofs.list.Lts as lts
-use Rattle.writing.proofs.list_bytes.Reads as list-bytes-reads
-use Rattle.writing.proofs.looked_at.Reads as looked-at-reads
 
 -- src/lib.rt:196:9
 looked-at-requires : tie.Need-looked-at-requires

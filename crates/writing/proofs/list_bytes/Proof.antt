@@ -1,20 +1,8 @@
-use Rattle.writing.specs.Shown.{Adds, ruleLineOf}
-use Rattle.writing.proofs.LineLaws as line
-use Rattle.writing.proofs.PlanLaws as plans
-use Rattle.writing.proofs.ShownLaws as shown
 use Rattle.writing.proofs.TableLaws as table
-use Prim.Native.Nat.{_-_, _+_, _*_, _≤_}
-use lib.ListN.{length, take}
-use native.Mathlib.Omega.{arith}
 use mathlib.Core.Path.{refl}
 use borrow.Author.Needs.{needs}
 use Rattle.writing.proofs.list_bytes.Statement.{statement}
 use Rattle.writing.proofs.list_bytes.Tie as tie
-use Rattle.writing.proofs.list_bytes.Reads as reads
-use Rattle.writing.proofs.list_bytes.Lts as lts
-use Rattle.writing.proofs.list_table.Reads as list-table-reads
-use Rattle.writing.proofs.little_endian.Reads as little-endian-reads
-use Rattle.writing.proofs.refusal_line.Reads as refusal-line-reads
 
 -- src/lib.rt:176:9
 refusal-line-requires : tie.Need-refusal-line-requires

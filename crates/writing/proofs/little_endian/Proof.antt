@@ -1,13 +1,9 @@
 use Rattle.writing.proofs.TableLaws as table
-use Prim.Native.Nat.{_-_, _+_, _*_, _≤_}
-use lib.ListN.{length, take}
+use Prim.Native.Nat.{_-_}
 use native.Mathlib.Omega.{arith}
 use borrow.Author.Needs.{needs}
 use Rattle.writing.proofs.little_endian.Statement.{statement}
 use Rattle.writing.proofs.little_endian.Tie as tie
-use Rattle.writing.proofs.little_endian.Reads as reads
-use Rattle.writing.proofs.little_endian.Lts as lts
-use Rattle.writing.proofs.joined.Reads as joined-reads
 
 abbrev Inv-loop : tie.InvT-loop
 Inv-loop bytes words₀ i₀ i-end words i = table.Words bytes words₀ words i

@@ -1,13 +1,7 @@
-use Rattle.writing.specs.Shown.{Adds}
 use Rattle.writing.proofs.LineLaws as line
-use Rattle.writing.proofs.ShownLaws as shown
 use borrow.Author.Needs.{needs}
 use Rattle.writing.proofs.number.Statement.{statement}
 use Rattle.writing.proofs.number.Tie as tie
-use Rattle.writing.proofs.number.Reads as reads
-use Rattle.writing.proofs.number.Lts as lts
-use Rattle.writing.proofs.digits.Reads as digits-reads
-use Rattle.writing.proofs.put.Reads as put-reads
 
 -- src/lib.rt:57:9
 put-requires : tie.Need-put-requires

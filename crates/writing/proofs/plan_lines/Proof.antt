@@ -1,16 +1,7 @@
-use Rattle.writing.specs.Shown.{Adds, ruleLineOf}
-use Rattle.writing.proofs.LineLaws as line
 use Rattle.writing.proofs.PlanLaws as plans
-use Rattle.writing.proofs.ShownLaws as shown
-use Rattle.writing.proofs.TableLaws as table
 use borrow.Author.Needs.{needs}
 use Rattle.writing.proofs.plan_lines.Statement.{statement}
 use Rattle.writing.proofs.plan_lines.Tie as tie
-use Rattle.writing.proofs.plan_lines.Reads as reads
-use Rattle.writing.proofs.plan_lines.Lts as lts
-use Rattle.writing.proofs.first_line.Reads as first-line-reads
-use Rattle.writing.proofs.rule_lines.Reads as rule-lines-reads
-use Rattle.writing.proofs.symbol_lines.Reads as symbol-lines-reads
 
 -- src/lib.rt:141:9
 first-line-requires : tie.Need-first-line-requires

@@ -1,11 +1,8 @@
-use Rattle.writing.proofs.LineLaws as line
 use Rattle.writing.proofs.ShownLaws as shown
 use native.Mathlib.Omega.{arith}
 use borrow.Author.Needs.{needs}
 use Rattle.writing.proofs.put.Statement.{statement}
 use Rattle.writing.proofs.put.Tie as tie
-use Rattle.writing.proofs.put.Reads as reads
-use Rattle.writing.proofs.put.Lts as lts
 
 -- src/lib.rt:22:9
 slice-write-out : tie.Need-slice-write-out
