@@ -11,7 +11,7 @@ ghost use Rattle.grammar.specs.declared.Verdict.the-variants.{Good};
 ghost use Rattle.grammar.specs.Verdicts.{each, unless};
 ghost use Rattle.grammar.specs.Reading.{readTable};
 ghost use Rattle.grammar.specs.Table as table;
-ghost use Rattle.reader.specs.Offsets.{offsetsFor};
+ghost use Rattle.access.specs.Offsets.{offsetsFor};
 ghost use Rattle.refusals.specs.declared.Refusal.the-variants as refusal;
 ghost use Rattle.trees.specs.Tree as tree;
 ghost use Rattle.trees.specs.Checking as check;
@@ -35,13 +35,13 @@ fn known_word(words: &[u16], t: &[u16], n: usize) -> bool
     requires { ⌜ n < 1024 ⌝ }
     ensures { λ r. ⌜ r ≡ check.knownWord (now (words .entry)) (now (t .entry)) n ⌝ }
 {
-    let r = reader::word(t, 8 * n);
+    let r = access::word(t, 8 * n);
     if r < 32768 {
-        return r < reader::word(words, 1);
+        return r < access::word(words, 1);
     }
     let x = r - 32768;
-    if x < reader::word(words, 0) {
-        return !reader::nonterminal(words, x);
+    if x < access::word(words, 0) {
+        return !access::nonterminal(words, x);
     }
     false
 }
@@ -54,9 +54,9 @@ fn used_slots(words: &[u16], offsets: &[u16; 64], t: &[u16], n: usize) -> usize
     ensures { λ r. ⌜ r ≡ tree.usedSlots (now (words .entry)) (now (t .entry)) n ⌝ }
     ensures { λ r. ⌜ r ≤ 7 ⌝ }
 {
-    let r = reader::word(t, 8 * n);
+    let r = access::word(t, 8 * n);
     if r < 32768 {
-        return reader::right_length(words, offsets[r] as usize);
+        return access::right_length(words, offsets[r] as usize);
     }
     0
 }
@@ -66,7 +66,7 @@ fn slot_fits(t: &[u16], n: usize, i: usize, used: usize) -> bool
     requires { ⌜ (n < 1024) × (i < 8) ⌝ }
     ensures { λ r. ⌜ r ≡ walk.slotTest (now (t .entry)) n i used ⌝ }
 {
-    let child = reader::word(t, 8 * n + i);
+    let child = access::word(t, 8 * n + i);
     if i <= used {
         if n < child {
             return child < t.len() / 8;
@@ -126,9 +126,9 @@ fn symbol_at_node(words: &[u16], offsets: &[u16; 64], t: &[u16], n: usize) -> us
     requires { ⌜ n < 1024 ⌝ }
     ensures { λ r. ⌜ r ≡ tree.symbolAtNode (now (words .entry)) (now (t .entry)) n ⌝ }
 {
-    let r = reader::word(t, 8 * n);
+    let r = access::word(t, 8 * n);
     if r < 32768 {
-        return reader::word(words, offsets[r] as usize);
+        return access::word(words, offsets[r] as usize);
     }
     r - 32768
 }
@@ -140,8 +140,8 @@ fn child_fits(words: &[u16], offsets: &[u16; 64], t: &[u16], n: usize, p: usize,
     requires { ⌜ walk.UsedSlot (now words) (now t) n p i ⌝ }
     ensures { λ r. ⌜ r ≡ walk.childTest (now (words .entry)) (now (t .entry)) n i ⌝ }
 {
-    let child = reader::word(t, 8 * n + i);
-    symbol_at_node(words, offsets, t, child) == reader::symbol_of(words, p, i)
+    let child = access::word(t, 8 * n + i);
+    symbol_at_node(words, offsets, t, child) == access::symbol_of(words, p, i)
 }
 
 // 16 at the used slots of node n, whose rule starts at word p.
@@ -166,10 +166,10 @@ fn children_fit(words: &[u16], offsets: &[u16; 64], t: &[u16], n: usize) -> bool
     requires { ⌜ n < tree.nodes (now t) ⌝ }
     ensures { λ r. ⌜ r ≡ check.childrenFit (now (words .entry)) (now (t .entry)) n ⌝ }
 {
-    let r = reader::word(t, 8 * n);
+    let r = access::word(t, 8 * n);
     if r < 32768 {
         let p = offsets[r] as usize;
-        return slots_match(words, offsets, t, n, p, reader::right_length(words, p));
+        return slots_match(words, offsets, t, n, p, access::right_length(words, p));
     }
     true
 }
@@ -195,7 +195,7 @@ fn name_children(named: &mut [u16], t: &[u16], n: usize, used: usize)
     ensures { λ _. ⌜ walk.NamedMore (now (named .entry)) (now (named .exit)) (now (t .entry)) n used ⌝ }
 {
     for i in 0..used {
-        let child = reader::word(t, 8 * n + i + 1);
+        let child = access::word(t, 8 * n + i + 1);
         named[child] = named[child] + 1;
     }
 }
@@ -251,7 +251,7 @@ pub fn check(words: &[u16], offsets: &[u16; 64], t: &[u16], values: usize) -> Ve
     let Verdict::Good = first else {
         return first;
     };
-    if symbol_at_node(words, offsets, t, 0) != reader::word(words, 2) {
+    if symbol_at_node(words, offsets, t, 0) != access::word(words, 2) {
         return Verdict::Refused(Refusal::RootNotStart);
     }
     let second = children_fault(words, offsets, t, nodes);

@@ -5,7 +5,7 @@ ghost use Rattle.basics.specs.Lists.{word};
 ghost use Rattle.values.specs.Value.{constant};
 ghost use Rattle.trees.specs.Tree as trees;
 ghost use Rattle.trees.specs.Equations.{valueAt};
-ghost use Rattle.evaluating.specs.Places as places;
+ghost use Rattle.evaluating.specs.FunctionPlaces as places;
 
 // The node at position i of the rule at node n: itself at 0, else its child.
 fn node_at(tree: &[u16], n: usize, i: usize) -> usize
@@ -15,7 +15,7 @@ fn node_at(tree: &[u16], n: usize, i: usize) -> usize
     if i == 0 {
         return n;
     }
-    reader::word(tree, 8 * n + i)
+    access::word(tree, 8 * n + i)
 }
 
 // Where the value of occurrence o of the rule at node n stands.
@@ -41,7 +41,7 @@ fn argument_value(words: &[u16], q: usize, tree: &[u16], values: &[i32], n: usiz
     requires { ⌜ n < 65536 ⌝ }
     ensures { λ r. ⌜ r ≡ places.occurrenceValue (now (tree .entry)) (now (values .entry)) n (word (now (words .entry)) q) ⌝ }
 {
-    value(values, cell(tree, n, reader::word(words, q)))
+    value(values, cell(tree, n, access::word(words, q)))
 }
 
 // The constant of the function at word f.
@@ -49,7 +49,7 @@ fn constant_value(words: &[u16], f: usize) -> i32
     requires { ⌜ f < 1000000 ⌝ }
     ensures { λ r. ⌜ r ≡ constant (places.argumentAt (now (words .entry)) f 0) ⌝ }
 {
-    values::constant(reader::word(words, f + 2) as u16)
+    values::constant(access::word(words, f + 2) as u16)
 }
 
 // The value that the function at word f gives at node n. It looks at no more words and values than its operation has arguments.
@@ -57,7 +57,7 @@ pub fn function_value(words: &[u16], f: usize, tree: &[u16], values: &[i32], n: 
     requires { ⌜ (f < 1000000) × (n < 65536) ⌝ }
     ensures { λ r. ⌜ r ≡ places.valueFrom (now (words .entry)) (now (tree .entry)) (now (values .entry)) n f ⌝ }
 {
-    let op = reader::word(words, f + 1) as u16;
+    let op = access::word(words, f + 1) as u16;
     if op == 0 {
         return constant_value(words, f);
     }

@@ -14,9 +14,9 @@ use Rattle.sets.specs.Visits.{visits}
 use Rattle.grammar.specs.declared.Verdict.the-variants.{Good}
 use Rattle.trees.specs.Checking.{checkTree}
 use Rattle.trees.specs.Equations.{valueAt}
-use Rattle.planning.specs.Answer.{Outcome, untouched, circularIdp, unordered, outcome, acceptedPlan}
-use Rattle.running.specs.declared.Ran.the-variants.{Done, Stopped}
-use Rattle.running.specs.Run.{ran}
+use Rattle.plans.specs.Answer.{Outcome, untouched, circularIdp, unordered, outcome, acceptedPlan}
+use Rattle.runs.specs.declared.Ran.the-variants.{Done, Stopped}
+use Rattle.runs.specs.Run.{ran}
 use Rattle.text.specs.Listing.{tableText}
 use Rattle.examples.specs.Tables.{
     tableG, tooManySymbols, copiedRound, crossedCopies, copiedItself, chainOfEight, noAttributes, twoLines, priorities
@@ -37,7 +37,7 @@ textOfG =
     ∷ 114 ∷ 32 ∷ 50 ∷ 32 ∷ 48 ∷ 32 ∷ 49 ∷ 50 ∷ 56 ∷ 32 ∷ 50 ∷ 32 ∷ 49 ∷ 50 ∷ 57 ∷ 10 ∷ []
 
 -- a run of G's plan over its tree of two lines
-unfoldable pub ranG : ℤ → ℤ → ℕ → Rattle.running.specs.Run.Ended
+unfoldable pub ranG : ℤ → ℤ → ℕ → Rattle.runs.specs.Run.Ended
 ranG first second budget = ran tableG (acceptedPlan tableG) twoLines (priorities first second) budget
 
 pub record Claims : Type 0 where

@@ -15,25 +15,25 @@ use Rattle.basics.proofs.TestLaws.{below-or-not}
 use Rattle.grammar.specs.declared.Verdict.the-variants.{Good}
 use Rattle.grammar.specs.Table.{rules, functionOf, defining}
 use Rattle.grammar.specs.Reading.{readTable}
-use Rattle.grammar.proofs.Accepted.{defining-occurs}
+use Rattle.grammar.proofs.AcceptedTable.{defining-occurs}
 use Rattle.sequences.specs.Actions.{visit, decode, isAction}
 use Rattle.sequences.proofs.ActionLaws.{decode-compute, decode-visit, action-belongs, belongs-compute, action-below}
 use Rattle.trees.specs.Tree.{nodes, ruleOf, appliesRule, child, cell}
 use Rattle.trees.specs.Checking.{checkTree}
 use Rattle.trees.proofs.Cells.{cell-inside}
-use Rattle.running.specs.declared.Ran as R
-use Rattle.planning.specs.Sequences.{actionAt}
-use Rattle.running.specs.Sound.{Sound}
-use Rattle.running.specs.Automaton.{Machine, started, functionFor, act, step, after}
-use Rattle.running.specs.Totals.{total}
-use Rattle.running.specs.Run.{ran}
-use Rattle.running.specs.Balance.{Given}
-use Rattle.running.specs.Computing.{machineAt}
-use Rattle.running.proofs.Steps.{action-of, step-on}
-use Rattle.running.proofs.StepsCounted.{empty-after}
-use Rattle.running.proofs.SequenceCounts.{rule-sound}
-use Rattle.running.proofs.ValuesWritten.{values-length, function-for}
-use Rattle.running.proofs.EverySoundPlan.{given, run-done, run-stopped, run-machine, run-busy, top-node, top-goes-on, top-belongs, stack-array}
+use Rattle.runs.specs.declared.Ran as R
+use Rattle.plans.specs.Sequences.{actionAt}
+use Rattle.runs.specs.Sound.{Sound}
+use Rattle.runs.specs.Automaton.{Machine, started, functionFor, act, step, after}
+use Rattle.runs.specs.Totals.{total}
+use Rattle.runs.specs.Run.{ran}
+use Rattle.runs.specs.Balance.{Given}
+use Rattle.runs.specs.Computing.{machineAt}
+use Rattle.runs.proofs.Steps.{action-of, step-on}
+use Rattle.runs.proofs.StepsCounted.{empty-after}
+use Rattle.runs.proofs.SequenceCounts.{rule-sound}
+use Rattle.runs.proofs.ValuesWritten.{values-length, function-for}
+use Rattle.runs.proofs.EverySoundPlan.{given, run-done, run-stopped, run-machine, run-busy, top-node, top-goes-on, top-belongs, stack-array}
 use Rattle.executing.specs.Located.{Located}
 use Rattle.executing.specs.State.{stackOf, machineOf, topOf, topAction, Ready, Stepped}
 use Rattle.executing.proofs.StateLaws.{stack-top, stack-empty, stack-length, same-machine}

@@ -16,11 +16,11 @@ use Rattle.grammar.specs.Table.{functionOf}
 use Rattle.sequences.specs.Actions.{Action, compute, visit, leave, decode}
 use Rattle.sequences.proofs.ActionLaws.{decode-compute, decode-visit, decode-leave}
 use Rattle.trees.specs.Tree.{nodes, ruleOf, child, cell}
-use Rattle.evaluating.specs.Places.{valueFrom}
+use Rattle.evaluating.specs.FunctionPlaces.{valueFrom}
 use Rattle.evaluating.proofs.PlaceLaws.{kept, by-number}
-use Rattle.planning.specs.Sequences.{actionAt}
-use Rattle.running.specs.Automaton.{Machine, functionFor, computed, act, step}
-use Rattle.running.proofs.Steps.{action-of, step-on}
+use Rattle.plans.specs.Sequences.{actionAt}
+use Rattle.runs.specs.Automaton.{Machine, functionFor, computed, act, step}
+use Rattle.runs.proofs.Steps.{action-of, step-on}
 use Rattle.executing.specs.State.{stackOf, machineOf, written, topOf, topAction, Ready, Stepped}
 
 -- machines are equal by their parts

@@ -8,9 +8,9 @@ use lib.ListN.{length, take, set}
 use Rattle.basics.specs.Lists.{word}
 use Rattle.grammar.specs.Table.{functionOf}
 use Rattle.trees.specs.Tree.{nodes, ruleOf, cell}
-use Rattle.evaluating.specs.Places.{valueFrom}
-use Rattle.planning.specs.Sequences.{actionAt}
-use Rattle.running.specs.Automaton.{Machine, functionFor, step}
+use Rattle.evaluating.specs.FunctionPlaces.{valueFrom}
+use Rattle.plans.specs.Sequences.{actionAt}
+use Rattle.runs.specs.Automaton.{Machine, functionFor, step}
 
 -- the first words of an array as a stack, the last of them on top
 unfoldable pub stackOf : List ℕ → ℕ → List ℕ

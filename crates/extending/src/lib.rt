@@ -8,12 +8,12 @@ ghost use Rattle.grammar.specs.declared.Verdict.the-variants as verdict;
 ghost use Rattle.grammar.specs.Limits.{rowWords};
 ghost use Rattle.grammar.specs.Reading.{readTable};
 ghost use Rattle.grammar.specs.Table as table;
-ghost use Rattle.reader.specs.Offsets.{offsetsFor};
+ghost use Rattle.access.specs.Offsets.{offsetsFor};
 ghost use Rattle.relations.specs.Computed.{idsOf};
 ghost use Rattle.sets.specs.Computed.{setsOf};
-ghost use Rattle.planning.specs.Buffers.{over, rowsOf};
-ghost use Rattle.planning.specs.Answer.{idpPaths, edpPaths};
-ghost use Rattle.extending.specs.Order as spec;
+ghost use Rattle.plans.specs.Buffers.{over, rowsOf};
+ghost use Rattle.plans.specs.Answer.{idpPaths, edpPaths};
+ghost use Rattle.extending.specs.Descents as spec;
 
 // Whether arc k = 8a + b leads to a lower set. Past the count of attributes the set words are 0, which is no set.
 fn descends(sets: &[u16; 256], p: usize, count: usize, k: usize) -> bool
@@ -47,9 +47,9 @@ fn order(words: &[u16], sets: &[u16; 256]) -> [u64; 32]
     ensures { λ r. ⌜ r ≡ spec.orderOf (now (words .entry)) (now (sets .entry)) ⌝ }
 {
     let mut arcs = [0u64; 32];
-    let symbols = reader::word(words, 0);
+    let symbols = access::word(words, 0);
     for x in 0..symbols {
-        arcs[x] = descents(sets, 8 * x, reader::attributes(words, x));
+        arcs[x] = descents(sets, 8 * x, access::attributes(words, x));
     }
     arcs
 }
@@ -64,9 +64,9 @@ pub fn extend(words: &[u16], offsets: &[u16; 64], sets: &[u16; 256], rows: &mut 
     ensures { λ _. ⌜ now (rows .exit) ≡ over (rowsOf (now (words .entry)) (edpPaths (now (words .entry)) (idsOf (now (words .entry))) (setsOf (now (words .entry)) (idsOf (now (words .entry)))))) (now (rows .entry)) ⌝ }
 {
     let arcs = order(words, sets);
-    let count = reader::word(words, 1);
+    let count = access::word(words, 1);
     for r in 0..count {
         let p = inducing::rule_at(offsets, r);
-        inducing::spread(words, p, rows, 64 * r, reader::occurrence_set(words, p), &arcs);
+        inducing::spread(words, p, rows, 64 * r, access::occurrence_set(words, p), &arcs);
     }
 }

@@ -15,9 +15,9 @@ use Rattle.basics.proofs.TestLaws.{
     same-test
 }
 use Rattle.grammar.specs.Table.{rules, ruleCounts}
-use Rattle.ordered.specs.Computed.{hasCycle, circular, cycleRule, cycleOccurrence}
+use Rattle.order.specs.Computed.{hasCycle, circular, cycleRule, cycleOccurrence}
 use Rattle.closing.specs.Rows.{leads}
-use Rattle.planning.specs.Buffers.{over, rowsOf}
+use Rattle.plans.specs.Buffers.{over, rowsOf}
 use Rattle.inducing.specs.declared.Cycle.{Cycle}
 use Rattle.inducing.specs.declared.Cycle.the-variants.{At, Nothing}
 use Rattle.inducing.specs.Cycles.{lies, cyclic, cycleIn}

@@ -22,23 +22,23 @@ use Rattle.grammar.specs.declared.Verdict.the-variants.{Good}
 use Rattle.grammar.specs.Table.{symbols, rules, attributes, symbolOf, position, attribute}
 use Rattle.grammar.specs.Reading.{readTable}
 use Rattle.grammar.specs.WellFormed.{WellFormed}
-use Rattle.grammar.proofs.Accepted.{accepted}
+use Rattle.grammar.proofs.AcceptedTable.{accepted}
 use Rattle.relations.specs.Paper.{IDS, IDP⁺}
 use Rattle.relations.specs.Computed.{arcIn, inducedArc, idp, idsOf}
 use Rattle.relations.proofs.Least.{ids-occurs}
 use Rattle.relations.proofs.Occurrences.{counts-below, occurs-below, occurs-inside, dp-sound, attribute-fits}
 use Rattle.relations.proofs.Rounds.{State, ids-state}
 use Rattle.relations.proofs.Induced.{ids-symbol}
-use Rattle.relations.proofs.Exact.{Sound, Closed, paths-complete, ids-unique, idp-path-exact}
+use Rattle.relations.proofs.ExactIdp.{Sound, Closed, paths-complete, ids-unique, idp-path-exact}
 use Rattle.closing.specs.Rows.{leads, arcsAt}
 use Rattle.closing.proofs.GatherLaws.{arc-at}
-use Rattle.planning.specs.Buffers.{over, rowsOf}
-use Rattle.planning.specs.Answer.{idpPaths}
+use Rattle.plans.specs.Buffers.{over, rowsOf}
+use Rattle.plans.specs.Answer.{idpPaths}
 use Rattle.inducing.specs.Rules.{Holds, Frame, Cleared, Induced, Arcs, Rounded, Standing, Turned}
-use Rattle.inducing.proofs.SetLaws.{small-set}
-use Rattle.inducing.proofs.RuleLaws.{counts}
+use Rattle.inducing.proofs.ArcSetLaws.{small-set}
+use Rattle.inducing.proofs.RuleRowLaws.{counts}
 use Rattle.inducing.proofs.HoldsLaws.{frame-none, frame-then, path-leads, holds-rows}
-use Rattle.inducing.proofs.StateLaws.{agreed}
+use Rattle.inducing.proofs.IdsStateLaws.{agreed}
 
 -- a padded list has the words of the list, and zeros
 pub padded-word : (n : ℕ) (xs : List ℕ) (x : ℕ) → word (padded n xs) x ≡ word xs x

@@ -16,20 +16,20 @@ use Rattle.grammar.specs.declared.Verdict.the-variants.{Good}
 use Rattle.grammar.specs.Table.{rules, attributes, lengthAt, functionsAt, ruleAt, rightLength, symbolOf, position, attribute, occurrence}
 use Rattle.grammar.specs.Reading.{readTable}
 use Rattle.grammar.specs.WellFormed.{WellFormed}
-use Rattle.grammar.proofs.Accepted.{accepted}
+use Rattle.grammar.proofs.AcceptedTable.{accepted}
 use Rattle.relations.specs.Paper.{DP, IDP, IDS, IDP⁺}
 use Rattle.relations.proofs.PathLaws.{path-join}
 use Rattle.relations.proofs.Least.{idp-paths, paths-idp, ids-occurs}
 use Rattle.relations.proofs.Occurrences.{occurs-attribute}
-use Rattle.reader.specs.Places.{occurrencesAt}
-use Rattle.reader.proofs.Same.{symbol-same}
+use Rattle.access.specs.ByPlace.{occurrencesAt}
+use Rattle.access.proofs.Same.{symbol-same}
 use Rattle.closing.specs.Rows.{leads, arcsAt}
 use Rattle.closing.proofs.ClosedLaws.{Kept}
 use Rattle.closing.proofs.GatherLaws.{arc-at, arcs-lt}
 use Rattle.inducing.specs.Closes.{Closes}
 use Rattle.inducing.specs.Arcs.{RuleArc, SpreadArc, ArcsFit, Gathered}
 use Rattle.inducing.specs.Rules.{occurrencesOf, Holds, Frame, Induced, Arcs, Standing, Turned}
-use Rattle.inducing.proofs.RuleLaws.{among-small, among-occurs, dp-arc, arc-dp, dp-small, standing, attribute-among}
+use Rattle.inducing.proofs.RuleRowLaws.{among-small, among-occurs, dp-arc, arc-dp, dp-small, standing, attribute-among}
 use Rattle.inducing.proofs.HoldsLaws.{rows-other, rows-keep, frame-none, frame-then, frame-turn, holds-lower, holds-turn}
 
 pub idp-trans : (g : List ℕ) (r a b c : ℕ) → IDP⁺ g r a b → IDP⁺ g r b c → IDP⁺ g r a c

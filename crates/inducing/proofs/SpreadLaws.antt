@@ -14,7 +14,7 @@ use Rattle.bits.proofs.MemberLaws.{hasb-below, union-cases, union-left, union-r
 use Rattle.basics.specs.Lists.{word}
 use Rattle.basics.proofs.TestLaws.{below-suc, and-right, same-or-not}
 use Rattle.grammar.specs.Table.{attributes, lengthAt}
-use Rattle.reader.specs.Places.{symbolFrom}
+use Rattle.access.specs.ByPlace.{symbolFrom}
 use Rattle.closing.specs.Rows.{leads, arcsAt}
 use Rattle.closing.proofs.ClosedLaws.{Kept}
 use Rattle.closing.proofs.GatherLaws.{arc-at, arcs-lt}

@@ -11,7 +11,7 @@ use lib.ListN.{length}
 use Rattle.bits.specs.Bit.{hasb}
 use Rattle.basics.specs.Lists.{word}
 use Rattle.grammar.specs.Table.{attributes, argumentWords, isConstant, lengthAt, functionAt, functionsAt}
-use Rattle.reader.specs.Places.{symbolFrom, Shaped}
+use Rattle.access.specs.ByPlace.{symbolFrom, Shaped}
 use Rattle.closing.specs.Rows.{arcsAt}
 use Rattle.inducing.specs.Closes.{ArcAt, Ends}
 

@@ -20,11 +20,11 @@ use Rattle.grammar.specs.declared.Verdict.the-variants.{Good}
 use Rattle.grammar.specs.Table.{symbols, nonterminal, attributes, mask, symbolCounts}
 use Rattle.grammar.specs.Reading.{readTable}
 use Rattle.grammar.specs.WellFormed.{WellFormed}
-use Rattle.grammar.proofs.Accepted.{accepted}
+use Rattle.grammar.proofs.AcceptedTable.{accepted}
 use Rattle.sets.specs.Computed.{placedUpTo, setsOfSymbol, setsOf, mostSets}
 use Rattle.sets.specs.Visits.{setNumber}
 use Rattle.sets.proofs.SetWords.{length-sets, word-of-symbol, number-of-other}
-use Rattle.placing.specs.Masks.{numberedTo, leftAfter, takenNext, placedNonterminal}
+use Rattle.placing.specs.SymbolSets.{numberedTo, leftAfter, takenNext, placedNonterminal}
 use Rattle.placing.proofs.SymbolLaws.{PlacedTo, placing-start, placing-turn}
 
 -- nine times over, the words and what is left are as the definition has them

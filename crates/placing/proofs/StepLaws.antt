@@ -10,7 +10,7 @@ use lib.ListN.{length}
 use borrow.Author.Tests.{eq-eqb, ne-eqb}
 use Rattle.bits.specs.Bit.{minus}
 use Rattle.bits.proofs.SetLaws.{minus-lt}
-use Rattle.placing.specs.Masks.{classOf, takenFrom, numbered, leftAfter, takenNext, numberedTo}
+use Rattle.placing.specs.SymbolSets.{classOf, takenFrom, numbered, leftAfter, takenNext, numberedTo}
 use Rattle.placing.proofs.SymbolLaws.{taken-lt, length-numbered}
 
 -- the class by the code's test

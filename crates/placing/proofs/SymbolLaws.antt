@@ -29,7 +29,7 @@ use Rattle.sets.specs.Computed.{takes, placedUpTo, unplaced}
 use Rattle.sets.proofs.Placing.{one-step, none-at-first}
 use Rattle.basics.proofs.ListLaws.{length-tabulate, getD-tabulate}
 use Rattle.closing.specs.Rows.{rewritten}
-use Rattle.placing.specs.Masks.{stays, takenFrom, numbered, classOf}
+use Rattle.placing.specs.SymbolSets.{stays, takenFrom, numbered, classOf}
 
 -- the set of a symbol's attributes
 below-forth : (n a : ℕ) → T (hasb a (below n)) → a < n

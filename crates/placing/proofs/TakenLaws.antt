@@ -15,7 +15,7 @@ use Rattle.bits.proofs.CollectLaws.{collect-lt}
 use Rattle.bits.proofs.MemberLaws.{hasb-collect, hasb-below, hasb-ext, insert-cases, insert-new, insert-old, has-not, has-other, none-left}
 use Rattle.basics.proofs.TestLaws.{and-intro, and-left, and-right, tested, same-test, same-or-not, true-T, T-true, T-false}
 use Rattle.closing.proofs.RewriteLaws.{Rewriting, rewriting-start, turn, finish}
-use Rattle.placing.specs.Masks.{stays, takenFrom, numbered}
+use Rattle.placing.specs.SymbolSets.{stays, takenFrom, numbered}
 
 -- a member of what is taken is a candidate that is done and stays
 pub record Taking (arcs unplaced class left taken : ℕ) : Type 0 where

@@ -8,7 +8,7 @@ ghost use Rattle.grammar.specs.declared.Verdict.the-variants.{Good};
 ghost use Rattle.grammar.specs.Reading.{readTable};
 ghost use Rattle.grammar.specs.WellFormed.{SymbolFormed};
 ghost use Rattle.sets.specs.Computed.{setsOf};
-ghost use Rattle.placing.specs.Masks as masks;
+ghost use Rattle.placing.specs.SymbolSets as masks;
 
 // All unplaced successors of attribute a are of the class.
 fn stays(arcs: u64, unplaced: u64, class: u64, a: usize) -> bool
@@ -87,9 +87,9 @@ fn place_nonterminal(words: &[u16], x: usize, arcs: u64, sets: &mut [u16])
     requires { ⌜ length (now sets) ≡ 256 ⌝ }
     ensures { λ _. ⌜ now (sets .exit) ≡ masks.placedNonterminal (now (words .entry)) x arcs (now (sets .entry)) ⌝ }
 {
-    if reader::nonterminal(words, x) {
-        let every = bits::below(reader::attributes(words, x));
-        place_symbol(sets, 8 * x, every, reader::mask(words, x) as u64, arcs);
+    if access::nonterminal(words, x) {
+        let every = bits::below(access::attributes(words, x));
+        place_symbol(sets, 8 * x, every, access::mask(words, x) as u64, arcs);
         return;
     }
 }
@@ -100,7 +100,7 @@ pub fn sets_of(words: &[u16], ids: &[u64; 32]) -> [u16; 256]
     ensures { λ r. ⌜ r ≡ setsOf (now (words .entry)) (now (ids .entry)) ⌝ }
 {
     let mut sets = [0u16; 256];
-    for x in 0..reader::word(words, 0) {
+    for x in 0..access::word(words, 0) {
         place_nonterminal(words, x, ids[x], &mut sets);
     }
     sets

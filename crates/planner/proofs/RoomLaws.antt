@@ -12,8 +12,8 @@ use Rattle.grammar.specs.declared.Verdict.the-variants.{Good, Refused}
 use Rattle.grammar.specs.Limits.{rowWords, planWords}
 use Rattle.grammar.specs.Table.{rules}
 use Rattle.grammar.proofs.VerdictLaws.{then-first, then-second, unless-passes}
-use Rattle.reader.proofs.Laws.{stops, passes, unless-true, unless-false}
-use Rattle.planning.specs.Answer.{room}
+use Rattle.access.proofs.Laws.{stops, passes, unless-true, unless-false}
+use Rattle.plans.specs.Answer.{room}
 
 pub rows-short : (g : List ℕ) (rows plan n : ℕ) → n ≡ getD g 1 0 → rows < 64 * n → Refused (TooShort 0) ≡ room g rows plan
 unfolding room

@@ -1,7 +1,7 @@
 // Lines of words and numbers on standard output, for the programs that show what a run does.
 use libc::STDOUT_FILENO;
 use refusals::Refusal;
-use running::Ran;
+use runs::Ran;
 
 ghost use mathlib.Core.Path.{_≡_};
 ghost use lib.IntN.{natAbs};

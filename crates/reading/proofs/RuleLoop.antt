@@ -18,11 +18,11 @@ use Rattle.grammar.specs.Table.{symbols, rules, ruleAt}
 use Rattle.grammar.specs.Verdicts.{_then_, unless, each}
 use Rattle.grammar.specs.Reading.{header, symbolFault, startClass, ruleBefore, ruleFault, leftOver, readTable}
 use Rattle.grammar.proofs.VerdictLaws.{each-at}
-use Rattle.grammar.proofs.Accepted.{symbol-formed, header-symbols, header-rules}
-use Rattle.reader.specs.Offsets.{offsetsFor}
-use Rattle.reader.specs.Places.{Symbols, ruleFrom, nextRule, leaves, Handed}
-use Rattle.reader.proofs.Laws.{passes, each-none, each-more, each-stop, each-end, each-of}
-use Rattle.reader.proofs.Same.{complete-same, rule-same}
+use Rattle.grammar.proofs.AcceptedTable.{symbol-formed, header-symbols, header-rules}
+use Rattle.access.specs.Offsets.{offsetsFor}
+use Rattle.access.specs.ByPlace.{Symbols, ruleFrom, nextRule, leaves, Handed}
+use Rattle.access.proofs.Laws.{passes, each-none, each-more, each-stop, each-end, each-of}
+use Rattle.access.proofs.Same.{complete-same, rule-same}
 
 -- a refused table has no offsets
 pub offsets-refused : (g : List ℕ) (v u : Verdict) (n : Refusal) (o : List ℕ) → v ≡ u → u ≡ Refused n → u ≡ readTable g → o ≡ replicate 64 0

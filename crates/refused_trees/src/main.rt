@@ -1,6 +1,6 @@
 // A damaged tree for each refusal of 12 to 18: what is answered, how many values changed, and how many words of rows and plan.
-use worked::G;
-use worked::TWO_LINES;
+use samples::G;
+use samples::TWO_LINES;
 ghost use Prim.Native.Nat.{_≤_, _<_};
 ghost use mathlib.Core.Path.{_≡_};
 ghost use lib.ListN.{length};

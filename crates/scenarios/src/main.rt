@@ -1,6 +1,6 @@
 // Runs: document 01's tree of two lines under every budget, and trees as large as a tree may be.
-use worked::G;
-use worked::TWO_LINES;
+use samples::G;
+use samples::TWO_LINES;
 ghost use mathlib.Core.Path.{_≡_};
 ghost use Prim.Native.Nat.{_+_, _*_, _≤_, _<_};
 ghost use lib.ListN.{length};

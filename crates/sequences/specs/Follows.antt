@@ -8,7 +8,7 @@ use Rattle.basics.specs.Tests.{_and_, _or_, some}
 use Rattle.grammar.specs.Limits.{mostOccurrences}
 use Rattle.grammar.specs.Table.{symbolOf}
 use Rattle.sets.specs.Visits.{visits}
-use Rattle.ordered.specs.Computed.{edp}
+use Rattle.order.specs.Computed.{edp}
 use Rattle.sequences.specs.Actions.{
     Action, compute, visit, leave, none, decode, makes, inheritedOf, synthesizedOf
 }

@@ -25,9 +25,9 @@ use Rattle.bits.proofs.MemberLaws.{
 use Rattle.bits.proofs.RestLaws.{rest-of}
 use Rattle.grammar.specs.Table.{attributes, nonterminal, lengthAt}
 use Rattle.sets.specs.Visits.{setNumber, highest, lastSet, visits}
-use Rattle.reader.specs.Places.{symbolFrom, definingsAt, Shaped}
-use Rattle.reader.proofs.Blocks.{block-more, collect-rest, below-small}
-use Rattle.sequencing.specs.Masks.{
+use Rattle.access.specs.ByPlace.{symbolFrom, definingsAt, Shaped}
+use Rattle.access.proofs.Blocks.{block-more, collect-rest, below-small}
+use Rattle.sequencing.specs.RuleSets.{
   setMask,
   inheritedMask,
   synthesizedMask,

@@ -14,7 +14,7 @@ use Rattle.grammar.specs.Table.{symbols, rules, nonterminal, attributes}
 use Rattle.relations.specs.Computed.{idsOf}
 use Rattle.sets.specs.Computed.{setsOf}
 use Rattle.sets.specs.Visits.{setNumber, visits}
-use Rattle.planning.specs.Answer.{Outcome, untouched, circularIdp, unordered, accepted, outcome, sequencesOf}
+use Rattle.plans.specs.Answer.{Outcome, untouched, circularIdp, unordered, accepted, outcome, sequencesOf}
 use Rattle.text.specs.Lines.{line, planWord, symbolWord, ruleWord, refusedWord}
 
 -- "A refusal prints `refused` and three numbers: number, place, second place."

@@ -1,5 +1,5 @@
 -- `checking::children_fit` meets its contract. Assumes nothing.
-use Rattle.checking.proofs.TestLaws.{below-of-known, few-rules, offset-fits, rule-slots, children-rule, children-terminal}
+use Rattle.checking.proofs.NodeTestLaws.{below-of-known, few-rules, offset-fits, rule-slots, children-rule, children-terminal}
 use native.Mathlib.Omega.{arith}
 use mathlib.Core.Path.{refl}
 use borrow.Author.Needs.{needs}
@@ -8,8 +8,8 @@ use Rattle.checking.proofs.children_fit.Tie as tie
 use Rattle.checking.proofs.children_fit.Reads as reads
 use Rattle.checking.proofs.children_fit.Lts as lts
 use Rattle.checking.proofs.slots_match.Reads as slots-match-reads
-use Rattle.reader.proofs.right_length.Reads as right-length-reads
-use Rattle.reader.proofs.word.Reads as word-reads
+use Rattle.access.proofs.right_length.Reads as right-length-reads
+use Rattle.access.proofs.word.Reads as word-reads
 
 mul-word : tie.Need-mul-word
 mul-word c = search needs

@@ -1,12 +1,12 @@
 -- `checking::known_word` meets its contract. Assumes nothing.
-use Rattle.checking.proofs.TestLaws.{known-rule, known-terminal, known-nothing}
+use Rattle.checking.proofs.NodeTestLaws.{known-rule, known-terminal, known-nothing}
 use borrow.Author.Needs.{needs}
 use Rattle.checking.proofs.known_word.Statement.{statement}
 use Rattle.checking.proofs.known_word.Tie as tie
 use Rattle.checking.proofs.known_word.Reads as reads
 use Rattle.checking.proofs.known_word.Lts as lts
-use Rattle.reader.proofs.nonterminal.Reads as nonterminal-reads
-use Rattle.reader.proofs.word.Reads as word-reads
+use Rattle.access.proofs.nonterminal.Reads as nonterminal-reads
+use Rattle.access.proofs.word.Reads as word-reads
 
 mul-word : tie.Need-mul-word
 mul-word c = search needs

@@ -1,5 +1,5 @@
 -- `checking::node_fault` meets its contract. Assumes nothing.
-use Rattle.checking.proofs.TestLaws.{known-of, node-good, node-child, node-unknown}
+use Rattle.checking.proofs.NodeTestLaws.{known-of, node-good, node-child, node-unknown}
 use borrow.Author.Needs.{needs}
 use Rattle.checking.proofs.node_fault.Statement.{statement}
 use Rattle.checking.proofs.node_fault.Tie as tie

@@ -1,5 +1,5 @@
 -- `checking::size_fits` meets its contract. Assumes nothing.
-use Rattle.checking.proofs.TestLaws.{size-all, size-none, size-part}
+use Rattle.checking.proofs.NodeTestLaws.{size-all, size-none, size-part}
 use Rattle.checking.proofs.size_fits.Statement.{statement}
 use Rattle.checking.proofs.size_fits.Tie as tie
 use Rattle.checking.proofs.size_fits.Reads as reads

@@ -1,12 +1,12 @@
 -- `checking::symbol_at_node` meets its contract. Assumes nothing.
-use Rattle.checking.proofs.TestLaws.{known-below, few-rules, offset-fits, symbol-rule, symbol-terminal}
+use Rattle.checking.proofs.NodeTestLaws.{known-below, few-rules, offset-fits, symbol-rule, symbol-terminal}
 use native.Mathlib.Omega.{arith}
 use borrow.Author.Needs.{needs}
 use Rattle.checking.proofs.symbol_at_node.Statement.{statement}
 use Rattle.checking.proofs.symbol_at_node.Tie as tie
 use Rattle.checking.proofs.symbol_at_node.Reads as reads
 use Rattle.checking.proofs.symbol_at_node.Lts as lts
-use Rattle.reader.proofs.word.Reads as word-reads
+use Rattle.access.proofs.word.Reads as word-reads
 
 mul-word : tie.Need-mul-word
 mul-word c = search needs

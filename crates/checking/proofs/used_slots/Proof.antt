@@ -1,13 +1,13 @@
 -- `checking::used_slots` meets its contract. Assumes nothing.
-use Rattle.checking.proofs.TestLaws.{known-below, offset-fits, few-rules, used-rule, used-none}
+use Rattle.checking.proofs.NodeTestLaws.{known-below, offset-fits, few-rules, used-rule, used-none}
 use native.Mathlib.Omega.{arith}
 use borrow.Author.Needs.{needs}
 use Rattle.checking.proofs.used_slots.Statement.{statement}
 use Rattle.checking.proofs.used_slots.Tie as tie
 use Rattle.checking.proofs.used_slots.Reads as reads
 use Rattle.checking.proofs.used_slots.Lts as lts
-use Rattle.reader.proofs.right_length.Reads as right-length-reads
-use Rattle.reader.proofs.word.Reads as word-reads
+use Rattle.access.proofs.right_length.Reads as right-length-reads
+use Rattle.access.proofs.word.Reads as word-reads
 
 mul-word : tie.Need-mul-word
 mul-word c = search needs

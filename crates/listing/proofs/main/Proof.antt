@@ -1,4 +1,4 @@
-use Rattle.writing.proofs.ShownLaws.{typed-there}
+use Rattle.lister.proofs.ShownLaws.{typed-there}
 use borrow.Author.Needs.{needs}
 use Rattle.listing.proofs.main.Statement.{statement}
 use Rattle.listing.proofs.main.Tie as tie

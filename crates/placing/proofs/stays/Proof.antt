@@ -1,6 +1,6 @@
 -- `placing::stays` meets its contract. Assumes nothing.
 use Rattle.placing.proofs.TakenLaws.{stays-by}
-use Rattle.placing.specs.Masks.{stays}
+use Rattle.placing.specs.SymbolSets.{stays}
 use borrow.Author.Needs.{needs}
 use Rattle.placing.proofs.stays.Statement.{statement}
 use Rattle.placing.proofs.stays.Tie as tie

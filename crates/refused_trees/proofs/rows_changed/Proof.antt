@@ -4,7 +4,7 @@ use mathlib.Core.Path.{_≡_}
 use lib.ListN.{length}
 use borrow.Author.Needs.{needs}
 use Rattle.refused_trees.specs.Changed.{Counted, other}
-use Rattle.refused_trees.proofs.CountLaws.{count-start, count-turn, count-end}
+use Rattle.refused_trees.proofs.ChangedLaws.{count-start, count-turn, count-end}
 use Rattle.refused_trees.proofs.rows_changed.Statement.{statement}
 use Rattle.refused_trees.proofs.rows_changed.Tie as tie
 

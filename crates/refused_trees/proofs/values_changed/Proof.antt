@@ -6,7 +6,7 @@ use lib.IntN.{pos}
 use lib.ListN.{length, getD}
 use borrow.Author.Needs.{needs}
 use Rattle.refused_trees.specs.Changed.{Counted, otherValue}
-use Rattle.refused_trees.proofs.CountLaws.{count-start, count-with, values-end}
+use Rattle.refused_trees.proofs.ChangedLaws.{count-start, count-with, values-end}
 use Rattle.refused_trees.proofs.values_changed.Statement.{statement}
 use Rattle.refused_trees.proofs.values_changed.Tie as tie
 

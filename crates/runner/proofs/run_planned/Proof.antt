@@ -1,5 +1,5 @@
 -- `runner::run_planned` meets its contract: a tree that the check refuses leaves the values, and one that it accepts is run. Assumes nothing.
-use Rattle.runner.proofs.WholeLaws.{read-ready, starts-good, tree-good, tree-refused, tree-ran}
+use Rattle.runner.proofs.WholeRunLaws.{read-ready, starts-good, tree-good, tree-refused, tree-ran}
 use borrow.Author.Needs.{needs}
 use Rattle.runner.proofs.run_planned.Statement.{statement}
 use Rattle.runner.proofs.run_planned.Tie as tie
