@@ -1,5 +1,7 @@
 // EDP of every rule in lent rows: step 4 of 000, section 7. The arcs from higher sets to lower ones are made once for each symbol and
 // then added at each position where it stands.
+use grammar::Offsets;
+use grammar::SET_WORDS;
 ghost use mathlib.Core.Path.{_≡_};
 ghost use Prim.Native.Nat.{_+_, _*_, _≤_, _<_};
 ghost use lib.ListN.{length};
@@ -16,7 +18,7 @@ ghost use Rattle.plans.specs.Answer.{idpPaths, edpPaths};
 ghost use Rattle.extending.specs.Descents as spec;
 
 // Whether arc k = 8a + b leads to a lower set. Past the count of attributes the set words are 0, which is no set.
-fn descends(sets: &[u16; 256], p: usize, count: usize, k: usize) -> bool
+fn descends(sets: &[u16; SET_WORDS], p: usize, count: usize, k: usize) -> bool
     requires { ⌜ (p + 8 ≤ 256) × (k < 64) ⌝ }
     ensures { λ r. ⌜ r ≡ spec.descends (now (sets .entry)) p count k ⌝ }
 {
@@ -28,7 +30,7 @@ fn descends(sets: &[u16; 256], p: usize, count: usize, k: usize) -> bool
 }
 
 // The arcs that lead down between the attributes whose set numbers stand from word p on.
-fn descents(sets: &[u16; 256], p: usize, count: usize) -> u64
+fn descents(sets: &[u16; SET_WORDS], p: usize, count: usize) -> u64
     requires { ⌜ (p + 8 ≤ 256) × (count ≤ 8) ⌝ }
     ensures { λ r. ⌜ r ≡ collect (8 * count) (λ k. spec.descends (now (sets .entry)) p count k) ⌝ }
 {
@@ -42,7 +44,7 @@ fn descents(sets: &[u16; 256], p: usize, count: usize) -> u64
 }
 
 // Those arcs for every symbol.
-fn order(words: &[u16], sets: &[u16; 256]) -> [u64; 32]
+fn order(words: &[u16], sets: &[u16; SET_WORDS]) -> [u64; 32]
     requires { ⌜ readTable (now words) ≡ verdict.Good ⌝ }
     ensures { λ r. ⌜ r ≡ spec.orderOf (now (words .entry)) (now (sets .entry)) ⌝ }
 {
@@ -55,7 +57,7 @@ fn order(words: &[u16], sets: &[u16; 256]) -> [u64; 32]
 }
 
 // Step 4: the rows, which hold the paths of IDP, get those of EDP.
-pub fn extend(words: &[u16], offsets: &[u16; 64], sets: &[u16; 256], rows: &mut [u64])
+pub fn extend(words: &[u16], offsets: &Offsets, sets: &[u16; SET_WORDS], rows: &mut [u64])
     requires { ⌜ readTable (now words) ≡ verdict.Good ⌝ }
     requires { ⌜ now offsets ≡ offsetsFor (now words) verdict.Good ⌝ }
     requires { ⌜ now sets ≡ setsOf (now words) (idsOf (now words)) ⌝ }

@@ -1,5 +1,7 @@
 // The relations of a grammar's rules in lent rows, 64 words a rule: row o of rule r is word 64r + o, and its bit b says that a path
 // leads from o to b. These are steps 1, 2 and 4 of 000, section 7.
+use grammar::Offsets;
+use grammar::ROWS;
 ghost use mathlib.Core.Path.{_≡_};
 ghost use Prim.Native.Nat.{_+_, _*_, _≤_, _<_};
 ghost use lib.ListN.{length, getD};
@@ -132,7 +134,7 @@ fn place(p: u16) -> usize
 }
 
 // The word at which rule r starts.
-pub fn rule_at(offsets: &[u16; 64], r: usize) -> usize
+pub fn rule_at(offsets: &Offsets, r: usize) -> usize
     requires { ⌜ r < 64 ⌝ }
     ensures { λ p. ⌜ p ≡ getD (now (offsets .entry)) r 0 ⌝ }
 {
@@ -140,7 +142,7 @@ pub fn rule_at(offsets: &[u16; 64], r: usize) -> usize
 }
 
 // Step 1: DP of every rule, closed.
-fn fill(words: &[u16], offsets: &[u16; 64], rows: &mut [u64])
+fn fill(words: &[u16], offsets: &Offsets, rows: &mut [u64])
     requires { ⌜ readTable (now words) ≡ verdict.Good ⌝ }
     requires { ⌜ now offsets ≡ offsetsFor (now words) verdict.Good ⌝ }
     requires { ⌜ 64 * table.rules (now words) ≤ length (now rows) ⌝ }
@@ -183,7 +185,7 @@ fn gather(words: &[u16], p: usize, rows: &[u64], base: usize, ids: &mut [u64; 32
 }
 
 // One round: every rule gets the arcs that its symbols have, and hands on those that its paths induce.
-fn round(words: &[u16], offsets: &[u16; 64], rows: &mut [u64], ids: &mut [u64; 32])
+fn round(words: &[u16], offsets: &Offsets, rows: &mut [u64], ids: &mut [u64; 32])
     requires { ⌜ readTable (now words) ≡ verdict.Good ⌝ }
     requires { ⌜ now offsets ≡ offsetsFor (now words) verdict.Good ⌝ }
     requires { ⌜ rules.Standing (now words) (now rows) (now rows) (now ids) ⌝ }
@@ -220,14 +222,14 @@ fn clear(rows: &mut [u64], count: usize)
 }
 
 // Steps 1 and 2: the rows get the paths of IDP, and the answer is IDS of every symbol. A round that adds no arc is the last.
-pub fn induce(words: &[u16], offsets: &[u16; 64], rows: &mut [u64]) -> [u64; 32]
+pub fn induce(words: &[u16], offsets: &Offsets, rows: &mut [u64]) -> [u64; 32]
     requires { ⌜ readTable (now words) ≡ verdict.Good ⌝ }
     requires { ⌜ now offsets ≡ offsetsFor (now words) verdict.Good ⌝ }
     requires { ⌜ rowWords (table.rules (now words)) ≤ length (now rows) ⌝ }
     ensures { λ r. ⌜ r ≡ padded 32 (idsOf (now (words .entry))) ⌝ }
     ensures { λ _. ⌜ now (rows .exit) ≡ over (rowsOf (now (words .entry)) (idpPaths (now (words .entry)) (idsOf (now (words .entry))))) (now (rows .entry)) ⌝ }
 {
-    clear(rows, 64 * access::word(words, 1));
+    clear(rows, ROWS * access::word(words, 1));
     fill(words, offsets, rows);
     let mut ids = [0u64; 32];
     loop {

@@ -1,4 +1,8 @@
 // The listing as text in a lent buffer: what does not fit is left out. Each function types at place `at` and answers the next place.
+use grammar::MOST_RULES;
+use grammar::ROWS;
+use grammar::RULE_WORDS;
+use grammar::SET_WORDS;
 use plans::Planned;
 use refusals::Refusal;
 
@@ -104,7 +108,7 @@ fn rule_line(plan: &[u16], r: usize, out: &mut [u8], at: usize) -> usize
 {
     let begun = put(out, at, 114);
     let mut to = number(out, begun, r);
-    let from = 256 + 112 * r;
+    let from = SET_WORDS + RULE_WORDS * r;
     for j in 0..access::word(plan, from) {
         to = number(out, to, access::word(plan, from + 1 + j));
     }
@@ -146,8 +150,8 @@ fn plan_lines(words: &[u16], plan: &[u16], out: &mut [u8]) -> usize
 fn list_table(words: &[u16], out: &mut [u8]) -> usize
     ensures { λ r. ⌜ shown.Shows (now (out .entry)) (listing.tableText (now (words .entry))) (now (out .exit)) r ⌝ }
 {
-    let mut rows = [0u64; 4096];
-    let mut plan = [0u16; 7424];
+    let mut rows = [0u64; ROWS * MOST_RULES];
+    let mut plan = [0u16; SET_WORDS + RULE_WORDS * MOST_RULES];
     let planned = planner::plan(words, &mut rows, &mut plan);
     if let Planned::Refused(refusal) = planned {
         return refusal_line(out, 0, refusal);

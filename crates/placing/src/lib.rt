@@ -1,10 +1,12 @@
 // The sets of each nonterminal, set after set from the end (000, section 7, step 3), with attributes as bits.
+use grammar::SET_WORDS;
 ghost use mathlib.Core.Path.{_≡_};
 ghost use mathlib.Core.Bool.{cond};
 ghost use Prim.Native.Nat.{_+_, _*_, _≤_, _<_};
 ghost use lib.ListN.{length};
 ghost use Rattle.bits.specs.Bit as bit;
 ghost use Rattle.grammar.specs.declared.Verdict.the-variants.{Good};
+ghost use Rattle.grammar.specs.Limits as limits;
 ghost use Rattle.grammar.specs.Reading.{readTable};
 ghost use Rattle.grammar.specs.WellFormed.{SymbolFormed};
 ghost use Rattle.sets.specs.Computed.{setsOf};
@@ -84,7 +86,7 @@ fn place_symbol(sets: &mut [u16], at: usize, every: u64, inherited: u64, arcs: u
 fn place_nonterminal(words: &[u16], x: usize, arcs: u64, sets: &mut [u16])
     requires { ⌜ SymbolFormed (now words) x ⌝ }
     requires { ⌜ x < 32 ⌝ }
-    requires { ⌜ length (now sets) ≡ 256 ⌝ }
+    requires { ⌜ length (now sets) ≡ limits.setWords ⌝ }
     ensures { λ _. ⌜ now (sets .exit) ≡ masks.placedNonterminal (now (words .entry)) x arcs (now (sets .entry)) ⌝ }
 {
     if access::nonterminal(words, x) {
@@ -95,11 +97,11 @@ fn place_nonterminal(words: &[u16], x: usize, arcs: u64, sets: &mut [u16])
 }
 
 // The set words of a plan, of a table that is accepted and its IDS.
-pub fn sets_of(words: &[u16], ids: &[u64; 32]) -> [u16; 256]
+pub fn sets_of(words: &[u16], ids: &[u64; 32]) -> [u16; SET_WORDS]
     requires { ⌜ readTable (now words) ≡ Good ⌝ }
     ensures { λ r. ⌜ r ≡ setsOf (now (words .entry)) (now (ids .entry)) ⌝ }
 {
-    let mut sets = [0u16; 256];
+    let mut sets = [0u16; SET_WORDS];
     for x in 0..access::word(words, 0) {
         place_nonterminal(words, x, ids[x], &mut sets);
     }

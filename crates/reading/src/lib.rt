@@ -1,5 +1,7 @@
 // Reading a grammar table: the verdict with refusals 1 to 7, in one walk over the words.
 // A rule is handed on as the word it starts at, a function too; specs/Places.antt of the reader says the tests of each by that word.
+use grammar::MOST_RULES;
+use grammar::Offsets;
 use grammar::Verdict;
 use refusals::Refusal;
 ghost use mathlib.Core.Path.{_≡_};
@@ -77,7 +79,7 @@ fn header(words: &[u16]) -> Verdict
     let Verdict::Good = first else {
         return first;
     };
-    let second = ranged(words, 1, between(1, access::word(words, 1), 64));
+    let second = ranged(words, 1, between(1, access::word(words, 1), MOST_RULES));
     let Verdict::Good = second else {
         return second;
     };
@@ -344,7 +346,7 @@ fn left_over(words: &[u16], p: usize) -> Verdict
 // The verdict on a table, and the word at which each of its rules starts.
 pub struct Reading {
     pub verdict: Verdict,
-    pub offsets: [u16; 64],
+    pub offsets: Offsets,
 }
 
 // A refused table has no offsets.
@@ -354,7 +356,7 @@ fn refused(verdict: Verdict) -> Reading
 {
     Reading {
         verdict,
-        offsets: [0u16; 64],
+        offsets: [0u16; MOST_RULES],
     }
 }
 
@@ -377,7 +379,7 @@ pub fn read(words: &[u16]) -> Reading
         return refused(start);
     };
     let rules = access::word(words, 1);
-    let mut offsets = [0u16; 64];
+    let mut offsets = [0u16; MOST_RULES];
     let mut p = 3 + 3 * symbols;
     let mut undefined: u64 = 0;
     for r in 0..rules {

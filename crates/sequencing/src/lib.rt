@@ -1,10 +1,13 @@
 // The visit-sequence of one rule (000, section 6.3), written into the lent plan.
 // Three sets hold the actions that are left, a fourth the occurrences that wait to be made available; the lowest ready action is next.
+use grammar::RULE_WORDS;
+use grammar::SET_WORDS;
 ghost use mathlib.Core.Path.{_≡_};
 ghost use mathlib.Core.Bool.{cond};
 ghost use Prim.Native.Nat.{_+_, _*_, _-_, _/_, _%_, _≤_, _<_, max};
 ghost use lib.ListN.{length};
 ghost use Rattle.bits.specs.Bit as bit;
+ghost use Rattle.grammar.specs.Limits as limits;
 ghost use Rattle.grammar.specs.Table as table;
 ghost use Rattle.access.specs.ByPlace as places;
 ghost use Rattle.relations.specs.Computed.{idsOf};
@@ -301,13 +304,13 @@ fn actions_left(state: State) -> usize
 }
 
 // The words of the sequence: length, actions, zeros.
-fn words_of(words: &[u16], p: usize, r: usize, sets: &[u16], rows: &[u64]) -> [u16; 112]
+fn words_of(words: &[u16], p: usize, r: usize, sets: &[u16], rows: &[u64]) -> [u16; RULE_WORDS]
     requires { ⌜ given.Given (now words) (now sets) (now rows) p r ⌝ }
     ensures { λ block. ⌜ block ≡ sequenceWords (sequenceOf (now (words .entry)) (idsOf (now (words .entry))) (now (sets .entry)) r) ⌝ }
 {
     let mut state = start(words, p, sets);
     let n = actions_left(state);
-    let mut block = [0u16; 112];
+    let mut block = [0u16; RULE_WORDS];
     block[0] = n as u16;
     for j in 0..n {
         let step = next(words, p, r, sets, rows, state);
@@ -332,14 +335,14 @@ pub fn sequence(
     words: &[u16],
     p: usize,
     r: usize,
-    sets: &[u16; 256],
+    sets: &[u16; SET_WORDS],
     rows: &[u64],
     plan: &mut [u16],
 )
     requires { ⌜ given.Given (now words) (now sets) (now rows) p r ⌝ }
-    requires { ⌜ 256 + 112 * table.rules (now words) ≤ length (now plan) ⌝ }
-    ensures { λ _. ⌜ now (plan .exit) ≡ given.written (now (plan .entry)) (256 + 112 * r) (sequenceWords (sequenceOf (now (words .entry)) (idsOf (now (words .entry))) (setsOf (now (words .entry)) (idsOf (now (words .entry)))) r)) ⌝ }
+    requires { ⌜ limits.planWords (table.rules (now words)) ≤ length (now plan) ⌝ }
+    ensures { λ _. ⌜ now (plan .exit) ≡ given.written (now (plan .entry)) (limits.planWords r) (sequenceWords (sequenceOf (now (words .entry)) (idsOf (now (words .entry))) (setsOf (now (words .entry)) (idsOf (now (words .entry)))) r)) ⌝ }
 {
     let block = words_of(words, p, r, sets, rows);
-    write(plan, 256 + 112 * r, &block);
+    write(plan, SET_WORDS + RULE_WORDS * r, &block);
 }
