@@ -1,7 +1,7 @@
 -- Where the stack is empty every node is at the end of its sequence, from the root up: its parent has visited it as often as it leaves.
 -- Assumes nothing.
 use Prim.Native.Nat.{ℕ, zero, suc, _<_}
-use mathlib.Core.Path.{_≡_, sym, _∙_, ap, subst, subst⁻¹}
+use mathlib.Core.Path.{_≡_, refl, sym, _∙_, ap, subst, subst⁻¹}
 use mathlib.Core.Logic.{⊎-elim}
 use mathlib.Core.List.{List, []}
 use native.Mathlib.Omega.{arith}
@@ -16,6 +16,7 @@ use Rattle.trees.specs.Tree.{nodes, ruleOf, appliesRule}
 use Rattle.trees.specs.Formed.{ChildOf, Parent}
 use Rattle.trees.proofs.AcceptedTree.{rule-symbol}
 use Rattle.plans.specs.Sequences.{sequenceLength}
+use Rattle.runs.specs.Sound.{SymbolSound}
 use Rattle.runs.specs.Counts.{visitsDone}
 use Rattle.runs.specs.Balance.{Given, leavesAt, Balanced}
 use Rattle.runs.proofs.SequenceCounts.{leaves-end, visits-all}
@@ -27,11 +28,9 @@ module _ {g p t : List ℕ} {l : ℕ} (given : Given g p t l) where
   start-once : visits p (start g) ≡ 1
   unfolding visits lastSet
   start-once =
+      let w : SymbolSound g p (start g) = given .sound .symbol (start g) (omega (arith, given .table .startFits, given .table .symbolsFit)) in
       omega (arith, highest-least mostAttributes (λ a. setNumber p (start g) a) 1 (λ a h.
-          ⊎-elim (λ s. omega (arith, given .sound .startSet a s))
-          (λ s.
-              omega (arith, given .sound .nothing (start g) a (omega (arith, given .table .startFits, given .table .symbolsFit)) h
-              (λ w. omega (arith, w .attributeIs))))
+          ⊎-elim (λ s. omega (arith, w .startSet refl a s)) (λ s. omega (arith, w .nothing a h (λ e. omega (arith, e .attributeIs))))
           (below-or-not a (attributes g (start g)))))
 
   module _ {places : List ℕ} (b : Balanced g p t [] places) where

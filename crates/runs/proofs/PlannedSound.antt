@@ -41,7 +41,7 @@ use Rattle.plans.specs.Answer.{acceptedPlan}
 use Rattle.plans.specs.Left.{SequenceStands}
 use Rattle.plans.proofs.PlanWords.{numbers-same, sequence-stands}
 use Rattle.plans.specs.Sequences.{sequenceLength, actionAt}
-use Rattle.runs.specs.Sound.{SetFits, Exists, Before, FromStart, Available, RuleSound, Sound}
+use Rattle.runs.specs.Sound.{SetFits, Exists, Before, FromStart, Available, RuleSound, SymbolSound, Sound}
 use Rattle.runs.proofs.SameSets.{visits-same, symbol-small, inherited-forth, synthesized-forth, makes-forth, action-forth}
 
 -- every rule has a first leave
@@ -186,6 +186,14 @@ module _ (g : List ℕ) (good : readTable g ≡ Good) (lent : List ℕ) where
             successors = λ b c m i. inr (ids-occurs g i .endFits)
         }) a l)
 
+    symbol-sound : (x : ℕ) → x < mostSymbols → SymbolSound g p x
+    symbol-sound x h =
+        record {
+            sets = set-fits x;
+            nothing = λ a l. nothing-there x a h l;
+            startSet = λ e a. subst⁻¹ (λ (y : ℕ). a < attributes g y → setNumber p y a ≡ 1) e (start-set a)
+        }
+
     -- whatever the planner writes is sound
     pub planned-sound : Sound g p
-    planned-sound = record { sets = set-fits; nothing = nothing-there; startSet = start-set; rule = rule-sound }
+    planned-sound = record { symbol = symbol-sound; rule = rule-sound }

@@ -102,10 +102,10 @@ module _ {g p : List ℕ} (table : WellFormed g) (sound : Sound g p) where
       (λ c.
           ⊎-elim
           (λ n.
-              ⊎-elim (λ e. sound .sets x a (record { counts = c; nonterminalIs = n; attributeIs = e }) .high)
-              (λ e. omega (arith, sound .nothing x a h l (λ w. omega (arith, w .attributeIs)))) (below-or-not a (attributes g x)))
-          (λ n. omega (arith, sound .nothing x a h l (λ w. T-not (nonterminal g x) n (w .nonterminalIs)))) (tested (nonterminal g x)))
-      (λ c. omega (arith, sound .nothing x a h l (λ w. T-not (ltb x (symbols g)) c (w .counts)))) (tested (ltb x (symbols g)))
+              ⊎-elim (λ e. sound .symbol x h .sets a (record { counts = c; nonterminalIs = n; attributeIs = e }) .high)
+              (λ e. omega (arith, sound .symbol x h .nothing a l (λ w. omega (arith, w .attributeIs)))) (below-or-not a (attributes g x)))
+          (λ n. omega (arith, sound .symbol x h .nothing a l (λ w. T-not (nonterminal g x) n (w .nonterminalIs)))) (tested (nonterminal g x)))
+      (λ c. omega (arith, sound .symbol x h .nothing a l (λ w. T-not (ltb x (symbols g)) c (w .counts)))) (tested (ltb x (symbols g)))
 
   -- a symbol has at most five visits
   pub visits-five : (x : ℕ) → x < mostSymbols → visits p x ≤ 5

@@ -42,6 +42,7 @@ pub data Available (g p : List ℕ) (r j o : ℕ) : Type 0 where
   always : FromStart g p r o → Available g p r j o
   made : (a : ℕ) → Before p r j a → T (makes g p r (decode a) o) → Available g p r j o
 
+-- the sequence of rule r; where this fails the plan has 27 at r
 pub record RuleSound (g p : List ℕ) (r : ℕ) : Type 0 where
   pub fits : sequenceLength p r < ruleWords
   -- "each sequence has every compute, visit and leave of its rule once and nothing else"
@@ -64,10 +65,14 @@ pub record RuleSound (g p : List ℕ) (r : ℕ) : Type 0 where
   -- "words past a length are zero"
   pub zeros : (j : ℕ) → sequenceLength p r ≤ j → suc j < ruleWords → actionAt p r j ≡ 0
 
-pub record Sound (g p : List ℕ) : Type 0 where
-  pub sets : (x a : ℕ) → Exists g x a → SetFits g p x a
+-- the sets of symbol x; where this fails the plan has 26 at x (02, 2026-05)
+pub record SymbolSound (g p : List ℕ) (x : ℕ) : Type 0 where
+  pub sets : (a : ℕ) → Exists g x a → SetFits g p x a
   -- "words where nothing stands are zero"
-  pub nothing : (x a : ℕ) → x < mostSymbols → a < mostAttributes → (Exists g x a → ⊥) → setNumber p x a ≡ 0
+  pub nothing : (a : ℕ) → a < mostAttributes → (Exists g x a → ⊥) → setNumber p x a ≡ 0
   -- "the start uses set 1 only"
-  pub startSet : (a : ℕ) → a < attributes g (start g) → setNumber p (start g) a ≡ 1
+  pub startSet : x ≡ start g → (a : ℕ) → a < attributes g x → setNumber p x a ≡ 1
+
+pub record Sound (g p : List ℕ) : Type 0 where
+  pub symbol : (x : ℕ) → x < mostSymbols → SymbolSound g p x
   pub rule : (r : ℕ) → T (ruleCounts g r) → RuleSound g p r
