@@ -94,7 +94,7 @@ fn symbol_line(words: &[u16], plan: &[u16], x: usize, out: &mut [u8], at: usize)
     }
     let begun = put(out, at, 115);
     let named = number(out, begun, x);
-    let mut to = number(out, named, sequencing::visits_of(plan, x));
+    let mut to = number(out, named, remaining::visits_of(plan, x));
     for a in 0..access::attributes(words, x) {
         to = number(out, to, access::word(plan, 8 * x + a));
     }

@@ -1,8 +1,7 @@
 pub mod Makers
 pub mod ReadyLaws
 pub mod OrderSteps
-pub mod RemainsLaws
-pub mod MaskLaws
+pub mod ReadySetLaws
 pub mod NextLaws
 pub mod CodeLaws
 pub mod StartLaws

@@ -57,12 +57,14 @@ use Rattle.sequences.proofs.Heights.{Orderly, setAt, fits, left-nonterminal, se
 use Rattle.sequences.proofs.PlannedSequences.{orderly}
 use Rattle.plans.specs.Answer.{edpPaths}
 use Rattle.sequencing.specs.Given.{Given}
-use Rattle.sequencing.specs.Remaining.{remains, remaining, Going, Taken, Done}
-use Rattle.sequencing.specs.RuleSets.{handedUp, handedDown, readyVisits, Children, Leading, Closed, Blocked}
+use Rattle.remaining.specs.Remaining.{remains, remaining, Done}
+use Rattle.sequencing.specs.Going.{Going, Taken}
+use Rattle.sequencing.specs.ReadySets.{readyVisits, Children, Leading, Closed, Blocked}
+use Rattle.remaining.specs.RuleSets.{handedUp, handedDown}
 use Rattle.sequencing.proofs.Makers.{Attribute, odd-of-visit, even-of-visit, visit-odd, visit-even}
 use Rattle.sequencing.proofs.ReadyLaws.{waits-attribute, free-quiet, quiet-free, VisitReady, free-visit, ready-visit, free-leave}
 use Rattle.sequencing.proofs.OrderSteps.{taken}
-use Rattle.sequencing.proofs.RemainsLaws.{
+use Rattle.remaining.proofs.RemainsLaws.{
   remains-compute,
   remains-visit,
   remains-leave,
@@ -75,7 +77,8 @@ use Rattle.sequencing.proofs.RemainsLaws.{
   less-visit,
   less-leave,
 }
-use Rattle.sequencing.proofs.MaskLaws.{up-at, at-up, down-at, at-down, Passes, ready-at, at-ready}
+use Rattle.sequencing.proofs.ReadySetLaws.{ready-at, at-ready}
+use Rattle.remaining.proofs.MaskLaws.{up-at, at-up, down-at, at-down, Passes}
 
 -- a member below the lowest is none
 pub under-first : (s l k : ℕ) → First s l → k < l → T (hasb k s) → ⊥

@@ -18,7 +18,9 @@ use Rattle.sequences.specs.Order.{firstReady, order}
 use Rattle.sequences.proofs.ActionLaws.{action-below}
 use Rattle.sequences.proofs.Rising.{rising-passing, length-without}
 use Rattle.sequences.proofs.OrderLaws.{First, found, nothing, ready-intro, ready-use, first-ready}
-use Rattle.sequencing.specs.Remaining.{remaining, Going, Taken}
+use Rattle.remaining.specs.Remaining.{remaining}
+use Rattle.sequencing.specs.Going.{Going, Taken}
+use Rattle.remaining.proofs.RemainsLaws.{Less}
 use Rattle.sequencing.proofs.Makers.{one-maker}
 
 -- two tests that agree below n pass the same numbers
@@ -38,11 +40,6 @@ without-append a (x ∷ xs) ys = go (eqb a x) (without-append a xs ys)
         → cond c (without a (xs ++ ys)) (x ∷ without a (xs ++ ys)) ≡ cond c (without a xs) (x ∷ without a xs) ++ without a ys
     go true e = e
     go false e = ap (λ (l : List ℕ). x ∷ l) e
-
--- a is no longer left, and nothing else changed
-pub record Less (before left : ℕ → Bool) (a : ℕ) : Type 0 where
-  pub gone : T (left a) → ⊥
-  pub others : (k : ℕ) → (k ≡ a → ⊥) → left k ≡ before k
 
 -- the numbers that pass, without one of them
 passing-less : (n : ℕ) (before left : ℕ → Bool) (a : ℕ) → Less before left a → passing n left ≡ without a (passing n before)

@@ -30,7 +30,7 @@ use Rattle.sequences.proofs.Heights.{Orderly, setAt, fits, left-nonterminal, ar
 use Rattle.sequences.proofs.SequenceLaws.{
     Maker, maker, compute-stands, visit-number, leave-number, visit-stands, leave-stands, visit-counts
 }
-use Rattle.sequencing.specs.Remaining.{Going}
+use Rattle.sequencing.specs.Going.{Going}
 use Rattle.sequencing.proofs.Makers.{
     Attribute, one-maker, made-attribute, arc-goal, set-high, even-of-visit, visit-even, visit-odd, first-unmade
 }

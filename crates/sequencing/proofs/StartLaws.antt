@@ -32,12 +32,13 @@ use Rattle.sequences.proofs.Rising.{length-passing}
 use Rattle.sequences.proofs.Heights.{setAt, fits, left-nonterminal}
 use Rattle.sequences.proofs.SequenceLaws.{maker, compute-stands, visit-stands, leave-stands}
 use Rattle.sequencing.specs.Given.{Given}
-use Rattle.sequencing.specs.Remaining.{remains, remaining, Going}
-use Rattle.sequencing.specs.RuleSets.{inheritedMask, visitFrom, madeFrom, Started}
+use Rattle.remaining.specs.Remaining.{remains, remaining}
+use Rattle.sequencing.specs.Going.{Going}
+use Rattle.remaining.specs.RuleSets.{inheritedMask, visitFrom, madeFrom, Started}
 use Rattle.sequencing.proofs.Makers.{Attribute, made-attribute, visit-even, first-unmade}
 use Rattle.sequencing.proofs.OrderSteps.{passing-same}
-use Rattle.sequencing.proofs.RemainsLaws.{remains-compute, remains-visit, remains-leave, Kind, aCompute, aVisit, aLeave, kind-of}
-use Rattle.sequencing.proofs.MaskLaws.{in-set, set-in}
+use Rattle.remaining.proofs.RemainsLaws.{remains-compute, remains-visit, remains-leave, Kind, aCompute, aVisit, aLeave, kind-of}
+use Rattle.remaining.proofs.MaskLaws.{in-set, set-in}
 use Rattle.sequencing.proofs.NextLaws.{orderly-rule, five-visits, symbol-is, set-from, visits-from}
 
 -- how many pass in two stretches

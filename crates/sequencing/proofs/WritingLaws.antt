@@ -9,10 +9,9 @@ use lib.ListN.{length, getD, set, take, drop, replicate, length-append}
 use lib.Seq.{set-at, take-all, paste, paste-zero, paste-suc, length-paste}
 use Rattle.basics.specs.Lists.{padded}
 use Rattle.bits.specs.Bit as bits
-use Rattle.bits.proofs.CountLaws.{count-le}
 use Rattle.relations.specs.Computed.{idsOf}
 use Rattle.sets.specs.Computed.{setsOf}
-use Rattle.access.specs.ByPlace.{Shaped}
+use Rattle.access.specs.ByPlace.{Shaped, symbolFrom}
 use Rattle.access.proofs.Accessors.{shaped-rule}
 use Rattle.sequences.specs.Actions.{actionsOf}
 use Rattle.sequences.specs.Follows.{follows}
@@ -20,24 +19,18 @@ use Rattle.sequences.specs.Order.{order, sequenceOf}
 use Rattle.sequences.proofs.ActionLaws.{at-most-104}
 use Rattle.plans.specs.Buffers.{sequenceWords}
 use Rattle.sequencing.specs.Given.{Given, written}
-use Rattle.sequencing.specs.Remaining.{remains, remaining, Going, Taken}
-use Rattle.sequencing.specs.RuleSets.{Few, Started}
+use Rattle.remaining.specs.Remaining.{remains, remaining}
+use Rattle.sequencing.specs.Going.{Going, Taken}
+use Rattle.remaining.specs.RuleSets.{Few, Started}
 use Rattle.sequencing.proofs.NextLaws.{five-visits}
 use Rattle.sequencing.proofs.StartLaws.{starts-going, starts-all, starts-count}
-
--- a count is at most 64
-pub count-fits : (s n : ℕ) → n ≡ bits.count 64 s → n ≤ 64
-count-fits s n e = omega (arith, count-le 64 s)
-
-pub counts-fit : (c v l x y z : ℕ) → x ≡ bits.count 64 c → y ≡ bits.count 64 v → z ≡ bits.count 64 l → x + y + z ≤ 192
-counts-fit c v l x y z e f h = omega (arith, count-le 64 c, count-le 64 v, count-le 64 l)
 
 module _ (g s rows : List ℕ) (p r : ℕ) where
   pub shaped-given : Given g s rows p r → Shaped g p
   shaped-given given = shaped-rule g r p (given .starts) (given .good) (given .counts)
 
-  pub few-given : Given g s rows p r → Few s
-  few-given given = five-visits g s rows p r given
+  pub few-given : Given g s rows p r → Few g p s
+  few-given given i h = five-visits g s rows p r given (symbolFrom g p i)
 
   -- after j actions, of n
   pub record Writing (n : ℕ) (block : List ℕ) (c v l w j : ℕ) : Type 0 where

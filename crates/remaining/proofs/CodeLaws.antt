@@ -1,0 +1,360 @@
+-- The sets that the code builds, attribute by attribute and position by position; each loop's record holds at its start, at every turn and at
+-- its end gives what the function promises. Assumes nothing.
+use Prim.Native.Nat.{ℕ, _+_, _*_, _-_, _/_, _%_, _^_, _≤_, _<_, max}
+use mathlib.Core.Path.{_≡_, refl, sym, _∙_, ap, ap₂, subst, subst⁻¹}
+use mathlib.Core.Logic.{⊎-elim}
+use mathlib.Core.Bool.{Bool, true, false, cond}
+use mathlib.Core.List.{List}
+use native.Mathlib.Omega.{arith}
+use native.Mathlib.Numerals.{add-one}
+use lib.Dec.{T, ltb, leb, eqb}
+use lib.ListN.{getD}
+use borrow.Author.Tests.{lt-ltb, le-ltb, le-leb, lt-leb}
+use Rattle.basics.specs.Tests.{_and_}
+use Rattle.basics.proofs.TestLaws.{below-or-not}
+use Rattle.bits.specs.Bit as bits
+use Rattle.bits.proofs.CountLaws.{count-le}
+use Rattle.bits.specs.Bit.{bit, number, collect, insert, below, union, common, minus, field, lowest, raised}
+use Rattle.bits.proofs.BitLaws.{bit-above, bit-below, bit-of-zero}
+use Rattle.bits.proofs.CollectLaws.{collect-lt, bit-collect-above}
+use Rattle.bits.proofs.MemberLaws.{hasb-collect, hasb-below}
+use Rattle.grammar.specs.Table.{attributes, nonterminal, lengthAt}
+use Rattle.sets.specs.Visits.{setNumber, highest, lastSet, visits}
+use Rattle.access.specs.ByPlace.{symbolFrom, definingsAt, Shaped}
+use Rattle.access.proofs.Blocks.{block-more, collect-rest, below-small}
+use Rattle.remaining.specs.RuleSets.{
+    setMask, inheritedMask, synthesizedMask, childVisits, madeAttributes, visitFrom, madeFrom, visitReady, Few, Started, handedUp,
+    handedDown
+}
+use Rattle.remaining.proofs.MaskLaws.{mask-small, no-member}
+
+-- one number more of a collected set
+collect-put : (a : ℕ) (f : ℕ → Bool) → cond (f a) (insert a (collect a f)) (collect a f) ≡ collect (a + 1) f
+unfolding collect insert
+collect-put a f = go (f a) ∙ ap (λ (k : ℕ). collect k f) (sym (add-one a))
+  where
+    go : (b : Bool) → cond b (insert a (collect a f)) (collect a f) ≡ collect a f + number b * 2 ^ a
+    go true = ap (λ (x : ℕ). collect a f + (1 - x) * 2 ^ a) (bit-collect-above a a f (omega arith))
+    go false = omega arith
+
+pub put-yes : (set i r : ℕ) (t : Bool) → t ≡ true → r ≡ insert i set → r ≡ cond t (insert i set) set
+put-yes set i r t e h = h ∙ sym (ap (λ (b : Bool). cond b (insert i set) set) e)
+
+-- ---- the attributes of a set
+pub record Masking (s : List ℕ) (x k mask a : ℕ) : Type 0 where
+  pub inside : a ≤ 8
+  pub maskIs : mask ≡ collect a (λ a. eqb (setNumber s x a) k)
+
+pub masking-start : (s : List ℕ) (x k : ℕ) → Masking s x k 0 0
+unfolding collect
+masking-start s x k = record { inside = omega arith; maskIs = refl }
+
+pub masking-turn : (s : List ℕ) (x k mask a m r : ℕ) → Masking s x k mask a → a < 8 → m ≡ getD s (8 * x + a) 0
+    → r ≡ cond (eqb m k) (insert a mask) mask → Masking s x k r (a + 1)
+unfolding setNumber
+masking-turn s x k mask a m r w h e f =
+    record {
+      inside = omega arith;
+      maskIs =
+          f
+          ∙ (ap₂ (λ (t : ℕ) (y : ℕ). cond (eqb t k) (insert a y) y) e (w .maskIs) ∙ collect-put a (λ a. eqb (setNumber s x a) k));
+    }
+
+pub masking-finish : (s : List ℕ) (x k mask a : ℕ) → Masking s x k mask a → 8 ≤ a → mask ≡ setMask s x k
+unfolding setMask
+masking-finish s x k mask a w h =
+    let e : a ≡ 8 = omega (arith, w .inside) in w .maskIs ∙ ap (λ (n : ℕ). collect n (λ a. eqb (setNumber s x a) k)) e
+
+-- ---- the last set
+pub record Climbing (s : List ℕ) (x last a : ℕ) : Type 0 where
+  pub inside : a ≤ 8
+  pub lastIs : last ≡ highest a (λ a. setNumber s x a)
+  pub small : last < 65536
+
+pub climbing-start : (s : List ℕ) (x : ℕ) → Climbing s x 0 0
+unfolding highest
+climbing-start s x = record { inside = omega arith; lastIs = refl; small = omega arith }
+
+pub climbing-turn : (s : List ℕ) (x last a m r : ℕ) → Climbing s x last a → a < 8 → m ≡ getD s (8 * x + a) 0 → m < 65536
+    → r ≡ max last m → Climbing s x r (a + 1)
+unfolding setNumber highest
+climbing-turn s x last a m r w h e l f =
+    record {
+      inside = omega arith;
+      lastIs =
+          f ∙ (ap₂ max (w .lastIs) e ∙ ap (λ (k : ℕ). highest k (λ a. setNumber s x a)) (sym (add-one a)));
+      small = omega (arith, w .small);
+    }
+
+pub climbing-finish : (s : List ℕ) (x last a : ℕ) → Climbing s x last a → 8 ≤ a → last ≡ lastSet s x
+unfolding lastSet
+climbing-finish s x last a w h =
+    let e : a ≡ 8 = omega (arith, w .inside) in w .lastIs ∙ ap (λ (n : ℕ). highest n (λ a. setNumber s x a)) e
+
+pub visits-by : (s : List ℕ) (x last r : ℕ) → last ≡ lastSet s x → r ≡ max 1 ((last + 1) / 2) → r ≡ visits s x
+unfolding visits
+visits-by s x last r e f = f ∙ ap (λ (k : ℕ). max 1 ((k + 1) / 2)) e
+
+pub inherited-by : (s : List ℕ) (x n v r : ℕ) → v ≡ visits s x → r ≡ setMask s x (2 * (v + 1 - n)) → r ≡ inheritedMask s x n
+unfolding inheritedMask
+inherited-by s x n v r e f = f ∙ ap (λ (k : ℕ). setMask s x (2 * (k + 1 - n))) e
+
+pub synthesized-by : (s : List ℕ) (x n v r : ℕ) → v ≡ visits s x → r ≡ setMask s x (2 * (v + 1 - n) - 1) → r ≡ synthesizedMask s x n
+unfolding synthesizedMask
+synthesized-by s x n v r e f = f ∙ ap (λ (k : ℕ). setMask s x (2 * (k + 1 - n) - 1)) e
+
+-- ---- the blocks of a rule: one a position, empty for a terminal
+bit-of-block : (t : Bool) (n a : ℕ) → bit a (cond t (below n) 0) ≡ number (t and ltb a n)
+unfolding _and_
+bit-of-block true n a =
+    ⊎-elim (λ l. bit-below n a l ∙ sym (ap number (lt-ltb a n l)))
+    (λ l. bit-above n a (below n) (lib.Pow.ones-lt n) l ∙ sym (ap number (le-ltb a n l))) (below-or-not a n)
+bit-of-block false n a = bit-of-zero a
+
+block-small : (t : Bool) (n : ℕ) → n ≤ 8 → cond t (below n) 0 < 256
+block-small true n h = below-small n h
+block-small false n h = omega arith
+
+pub block-yes : (t u : Bool) (n k r : ℕ) → t ≡ u → t ≡ true → k ≡ n → r ≡ below k → r ≡ cond u (below n) 0
+block-yes t u n k r e f h q = q ∙ (ap below h ∙ sym (ap (λ (b : Bool). cond b (below n) 0) (sym e ∙ f)))
+
+pub block-no : (t u : Bool) (n : ℕ) → t ≡ u → t ≡ false → 0 ≡ cond u (below n) 0
+block-no t u n e f = sym (ap (λ (b : Bool). cond b (below n) 0) (sym e ∙ f))
+
+module _ (g s : List ℕ) (x : ℕ) where
+  pub child-yes : (t : Bool) (k r : ℕ) → t ≡ nonterminal g x → t ≡ true → k ≡ visits s x → r ≡ below k → r ≡ childVisits g s x
+  unfolding childVisits
+  child-yes t k r e f h q = block-yes t (nonterminal g x) (visits s x) k r e f h q
+
+  pub child-no : (t : Bool) → t ≡ nonterminal g x → t ≡ false → 0 ≡ childVisits g s x
+  unfolding childVisits
+  child-no t e f = block-no t (nonterminal g x) (visits s x) e f
+
+  pub child-small : (r : ℕ) → visits s x ≤ 5 → r ≡ childVisits g s x → r < 256
+  unfolding childVisits
+  child-small r few e = subst⁻¹ (λ (y : ℕ). y < 256) e (block-small (nonterminal g x) (visits s x) (omega arith))
+
+module _ (g : List ℕ) (x : ℕ) where
+  pub made-yes : (t : Bool) (k r : ℕ) → t ≡ nonterminal g x → t ≡ true → k ≡ attributes g x → r ≡ below k → r ≡ madeAttributes g x
+  unfolding madeAttributes
+  made-yes t k r e f h q = block-yes t (nonterminal g x) (attributes g x) k r e f h q
+
+  pub made-no : (t : Bool) → t ≡ nonterminal g x → t ≡ false → 0 ≡ madeAttributes g x
+  unfolding madeAttributes
+  made-no t e f = block-no t (nonterminal g x) (attributes g x) e f
+
+  pub made-small : (r : ℕ) → attributes g x ≤ 8 → r ≡ madeAttributes g x → r < 256
+  unfolding madeAttributes
+  made-small r few e = subst⁻¹ (λ (y : ℕ). y < 256) e (block-small (nonterminal g x) (attributes g x) few)
+
+module _ (g : List ℕ) (p : ℕ) where
+  -- the attributes at a position of the rule
+  pub few-attributes : (i x : ℕ) → Shaped g p → i ≤ lengthAt g p → x ≡ symbolFrom g p i → attributes g x ≤ 8
+  few-attributes i x w h e = subst⁻¹ (λ (y : ℕ). attributes g y ≤ 8) e (w .formed i h .attributesFit)
+
+  made-bit : (i a : ℕ) → i ≤ lengthAt g p → a < 8 → bit a (madeAttributes g (symbolFrom g p i)) ≡ number (madeFrom g p (8 * i + a))
+  unfolding madeAttributes madeFrom _and_
+  made-bit i a h l =
+      let place : (8 * i + a) / 8 ≡ i = omega arith in
+      let own : (8 * i + a) % 8 ≡ a = omega arith in
+      bit-of-block (nonterminal g (symbolFrom g p i)) (attributes g (symbolFrom g p i)) a
+      ∙ sym (ap number
+      (ap₂ (λ (j b : ℕ). leb j (lengthAt g p) and (nonterminal g (symbolFrom g p j) and ltb b (attributes g (symbolFrom g p j)))) place own
+      ∙ ap (λ (t : Bool). t and (nonterminal g (symbolFrom g p i) and ltb a (attributes g (symbolFrom g p i)))) (le-leb i (lengthAt g p) h)))
+
+  made-past : (o : ℕ) → 8 * (lengthAt g p + 1) ≤ o → madeFrom g p o ≡ false
+  unfolding madeFrom _and_
+  made-past o h =
+      ap (λ (t : Bool). t and (nonterminal g (symbolFrom g p (o / 8)) and ltb (o % 8) (attributes g (symbolFrom g p (o / 8)))))
+      (lt-leb (o / 8) (lengthAt g p) (omega arith))
+
+  pub record Making (end made i : ℕ) : Type 0 where
+    pub endIs : end ≡ lengthAt g p + 1
+    pub inside : i ≤ end
+    pub shaped : Shaped g p
+    pub madeIs : made ≡ collect (8 * i) (λ o. madeFrom g p o)
+
+  pub making-start : (n end : ℕ) → Shaped g p → n ≡ lengthAt g p → end ≡ n + 1 → Making end 0 0
+  unfolding collect
+  making-start n end w e f = record { endIs = omega arith; inside = omega arith; shaped = w; madeIs = refl }
+
+  -- a block at a position of the rule fits eight bits
+  pub making-small : (end made i x : ℕ) → Making end made i → i < end → x ≡ symbolFrom g p i → attributes g x ≤ 8
+  making-small end made i x w h e = few-attributes i x (w .shaped) (omega (arith, w .endIs)) e
+
+  pub making-place : (end made i x there : ℕ) → Making end made i → i < end → x ≡ symbolFrom g p i → there ≡ madeAttributes g x
+      → (there < 256) × (8 * i ≤ 56)
+  making-place end made i x there w h e f =
+      (made-small g x there (making-small end made i x w h e) f, omega (arith, w .endIs, w .shaped .short))
+
+  pub making-turn : (end made i x there part next : ℕ) → Making end made i → i < end → x ≡ symbolFrom g p i → there ≡ madeAttributes g x
+      → part ≡ raised (8 * i) there → next ≡ union part made → Making end next (i + 1)
+  unfolding raised
+  making-turn end made i x there part next w h e f q n =
+      let b : there ≡ madeAttributes g (symbolFrom g p i) = f ∙ ap (madeAttributes g) e in
+      record {
+        endIs = w .endIs;
+        inside = omega arith;
+        shaped = w .shaped;
+        madeIs =
+            n
+            ∙ (ap₂ union (q ∙ ap (λ (y : ℕ). y * 2 ^ (8 * i)) b) (w .madeIs)
+            ∙ block-more (λ o. madeFrom g p o) i (madeAttributes g (symbolFrom g p i))
+            (made-small g (symbolFrom g p i) (madeAttributes g (symbolFrom g p i)) (w .shaped .formed i (omega (arith, w .endIs)) .attributesFit) refl)
+            (λ a l. made-bit i a (omega (arith, w .endIs)) l));
+      }
+
+  pub making-finish : (end made i : ℕ) → Making end made i → end ≤ i → made ≡ collect 64 (λ o. madeFrom g p o)
+  making-finish end made i w h =
+      let e : i ≡ lengthAt g p + 1 = omega (arith, w .inside, w .endIs) in
+      w .madeIs
+      ∙ (ap (λ (k : ℕ). collect (8 * k) (λ o. madeFrom g p o)) e
+      ∙ sym (collect-rest (8 * (lengthAt g p + 1)) 64 (λ o. madeFrom g p o) (omega (arith, w .shaped .short)) made-past))
+
+module _ (g s : List ℕ) (p : ℕ) where
+  visit-bit : (i a : ℕ) → i < lengthAt g p → a < 8 → bit a (childVisits g s (symbolFrom g p (i + 1))) ≡ number (visitFrom g s p (8 * (i + 1) + a))
+  unfolding childVisits visitFrom _and_
+  visit-bit i a h l =
+      let place : (8 * (i + 1) + a) / 8 ≡ i + 1 = omega arith in
+      let own : (8 * (i + 1) + a) % 8 ≡ a = omega arith in
+      bit-of-block (nonterminal g (symbolFrom g p (i + 1))) (visits s (symbolFrom g p (i + 1))) a
+      ∙ sym (ap number
+      (ap₂ (λ (j b : ℕ). (leb 1 j and leb j (lengthAt g p)) and (nonterminal g (symbolFrom g p j) and ltb b (visits s (symbolFrom g p j)))) place own
+      ∙ ap₂ (λ (t u : Bool). (t and u) and (nonterminal g (symbolFrom g p (i + 1)) and ltb a (visits s (symbolFrom g p (i + 1)))))
+      (le-leb 1 (i + 1) (omega arith)) (le-leb (i + 1) (lengthAt g p) (omega arith))))
+
+  visit-past : (b : ℕ) → 8 * (lengthAt g p + 1) ≤ b → visitFrom g s p b ≡ false
+  unfolding visitFrom _and_
+  visit-past b h =
+      ap₂ (λ (t u : Bool). (t and u) and (nonterminal g (symbolFrom g p (b / 8)) and ltb (b % 8) (visits s (symbolFrom g p (b / 8)))))
+      (le-leb 1 (b / 8) (omega arith)) (lt-leb (b / 8) (lengthAt g p) (omega arith))
+
+  -- the left side is no child
+  visit-none : (b : ℕ) → b < 8 → visitFrom g s p b ≡ false
+  unfolding visitFrom _and_
+  visit-none b h =
+      ap (λ (t : Bool). (t and leb (b / 8) (lengthAt g p)) and (nonterminal g (symbolFrom g p (b / 8)) and ltb (b % 8) (visits s (symbolFrom g p (b / 8)))))
+      (lt-leb 1 (b / 8) (omega arith))
+
+  pub record Calling (end found i : ℕ) : Type 0 where
+    pub endIs : end ≡ lengthAt g p
+    pub inside : i ≤ end
+    pub shaped : Shaped g p
+    pub few : Few g p s
+    pub foundIs : found ≡ collect (8 * (i + 1)) (λ b. visitFrom g s p b)
+
+  pub calling-start : (end : ℕ) → Shaped g p → Few g p s → end ≡ lengthAt g p → Calling end 0 0
+  calling-start end w few e =
+      record {
+        endIs = e;
+        inside = omega arith;
+        shaped = w;
+        few = few;
+        foundIs =
+            sym (no-member 8 (collect 8 (λ b. visitFrom g s p b)) (collect-lt 8 _)
+            (λ b t.
+            let h : b < 8 = hasb-below 8 b (collect 8 (λ b. visitFrom g s p b)) (collect-lt 8 _) t in
+            subst (λ (x : Bool). T x) (hasb-collect 8 b _ h ∙ visit-none b h) t));
+      }
+
+  pub calling-few : (end found i x : ℕ) → Calling end found i → i < end → x ≡ symbolFrom g p (i + 1) → visits s x ≤ 5
+  calling-few end found i x w h e =
+      subst⁻¹ (λ (y : ℕ). visits s y ≤ 5) e (w .few (i + 1) (omega (arith, w .endIs)))
+
+  pub calling-place : (end found i x there : ℕ) → Calling end found i → i < end → x ≡ symbolFrom g p (i + 1) → there ≡ childVisits g s x
+      → (there < 256) × (8 * (i + 1) ≤ 56)
+  calling-place end found i x there w h e f =
+      (child-small g s x there (calling-few end found i x w h e) f, omega (arith, w .endIs, w .shaped .short))
+
+  pub calling-turn : (end found i x there part next : ℕ) → Calling end found i → i < end → x ≡ symbolFrom g p (i + 1) → there ≡ childVisits g s x
+      → part ≡ raised (8 * (i + 1)) there → next ≡ union part found → Calling end next (i + 1)
+  unfolding raised
+  calling-turn end found i x there part next w h e f q n =
+      let b : there ≡ childVisits g s (symbolFrom g p (i + 1)) = f ∙ ap (childVisits g s) e in
+      record {
+        endIs = w .endIs;
+        inside = omega arith;
+        shaped = w .shaped;
+        few = w .few;
+        foundIs =
+            n
+            ∙ (ap₂ union (q ∙ ap (λ (y : ℕ). y * 2 ^ (8 * (i + 1))) b) (w .foundIs)
+            ∙ block-more (λ b. visitFrom g s p b) (i + 1) (childVisits g s (symbolFrom g p (i + 1)))
+            (child-small g s (symbolFrom g p (i + 1)) (childVisits g s (symbolFrom g p (i + 1))) (w .few (i + 1) (omega (arith, w .endIs))) refl) (λ a l. visit-bit i a (omega (arith, w .endIs)) l));
+      }
+
+  pub calling-finish : (end found i : ℕ) → Calling end found i → end ≤ i → found ≡ collect 64 (λ b. visitFrom g s p b)
+  calling-finish end found i w h =
+      let e : i ≡ lengthAt g p = omega (arith, w .inside, w .endIs) in
+      w .foundIs
+      ∙ (ap (λ (k : ℕ). collect (8 * (k + 1)) (λ b. visitFrom g s p b)) e
+      ∙ sym (collect-rest (8 * (lengthAt g p + 1)) 64 (λ b. visitFrom g s p b) (omega (arith, w .shaped .short)) visit-past))
+
+-- ---- when a visit is ready
+module _ (g s : List ℕ) (p visits waiting : ℕ) where
+  -- the test as the code makes it
+  pub later-one : (b bits low : ℕ) → bits ≡ field (8 * (b / 8)) visits → low ≡ lowest 64 bits → low < b % 8
+      → false ≡ visitReady g s p visits waiting b
+  unfolding visitReady _and_
+  later-one b bits low e f l =
+      sym (ap (λ (t : Bool). t and eqb (common (field (8 * (b / 8)) waiting) (inheritedMask s (symbolFrom g p (b / 8)) (b % 8 + 1))) 0)
+      (lt-leb (b % 8) (lowest 64 (field (8 * (b / 8)) visits)) (omega (arith, f ∙ ap (lowest 64) e))))
+
+  pub next-one : (b bits low x down there both : ℕ) → bits ≡ field (8 * (b / 8)) visits → low ≡ lowest 64 bits → b % 8 ≤ low
+      → x ≡ symbolFrom g p (b / 8) → down ≡ inheritedMask s x (b % 8 + 1) → there ≡ field (8 * (b / 8)) waiting → both ≡ common there down
+      → eqb both 0 ≡ visitReady g s p visits waiting b
+  unfolding visitReady _and_
+  next-one b bits low x down there both e f l q d t h =
+      ap (λ (y : ℕ). eqb y 0) (h ∙ ap₂ common t (d ∙ ap (λ (y : ℕ). inheritedMask s y (b % 8 + 1)) q))
+      ∙ sym (ap (λ (t : Bool). t and eqb (common (field (8 * (b / 8)) waiting) (inheritedMask s (symbolFrom g p (b / 8)) (b % 8 + 1))) 0)
+      (le-leb (b % 8) (lowest 64 (field (8 * (b / 8)) visits)) (omega (arith, f ∙ ap (lowest 64) e))))
+
+  -- a visit that is looked at takes along the attributes of one of its symbol's visits
+  pub visit-inside : (b x : ℕ) → b % 8 < Rattle.sets.specs.Visits.visits s (symbolFrom g p (b / 8)) → x ≡ symbolFrom g p (b / 8)
+      → b % 8 + 1 ≤ Rattle.sets.specs.Visits.visits s x + 1
+  visit-inside b x h e = omega (arith, ap (λ (y : ℕ). Rattle.sets.specs.Visits.visits s y) e)
+
+-- ---- what is left before the first action, and after one
+pub started-by : (g s : List ℕ) (p x c v n l m d w : ℕ) → x ≡ symbolFrom g p 0 → c ≡ definingsAt g p → v ≡ collect 64 (λ b. visitFrom g s p b)
+    → n ≡ visits s x → l ≡ below n → m ≡ collect 64 (λ o. madeFrom g p o) → d ≡ inheritedMask s x 1 → w ≡ minus m d
+    → Started g s p c v l w
+started-by g s p x c v n l m d w e f h q k i j z =
+    record {
+      computesAre = f;
+      visitsAre = h;
+      leavesAre = k ∙ ap below (q ∙ ap (λ (y : ℕ). visits s y) e);
+      waitingAre = z ∙ ap₂ minus i (j ∙ ap (λ (y : ℕ). inheritedMask s y 1) e);
+    }
+
+-- the leaves are few enough for one set
+pub few-leaves : (g s : List ℕ) (p x n : ℕ) → Few g p s → x ≡ symbolFrom g p 0 → n ≡ visits s x → n ≤ 64
+few-leaves g s p x n few e f = omega (arith, few 0 (omega arith), ap (λ (y : ℕ). visits s y) e)
+
+pub up-by : (g s : List ℕ) (p b x up part w r : ℕ) → x ≡ symbolFrom g p (b / 8) → up ≡ synthesizedMask s x (b % 8 + 1) → part ≡ raised (8 * (b / 8)) up
+    → r ≡ minus w part → r ≡ minus w (handedUp g s p b)
+unfolding handedUp
+up-by g s p b x up part w r e f h q =
+    q ∙ ap (minus w) (h ∙ ap (raised (8 * (b / 8))) (f ∙ ap (λ (y : ℕ). synthesizedMask s y (b % 8 + 1)) e))
+
+pub down-by : (g s : List ℕ) (p b x down w r : ℕ) → x ≡ symbolFrom g p 0 → down ≡ inheritedMask s x (b + 2) → r ≡ minus w down
+    → r ≡ minus w (handedDown g s p b)
+unfolding handedDown
+down-by g s p b x down w r e f q = q ∙ ap (minus w) (f ∙ ap (λ (y : ℕ). inheritedMask s y (b + 2)) e)
+
+pub up-small : (s : List ℕ) (x n up : ℕ) → up ≡ synthesizedMask s x n → up < 256
+unfolding synthesizedMask
+up-small s x n up e = subst⁻¹ (λ (y : ℕ). y < 256) e (mask-small s x (2 * (visits s x + 1 - n) - 1))
+
+pub up-inside : (g s : List ℕ) (p b x : ℕ) → b % 8 < visits s (symbolFrom g p (b / 8)) → x ≡ symbolFrom g p (b / 8) → b % 8 + 1 ≤ visits s x
+up-inside g s p b x h e = omega (arith, ap (λ (y : ℕ). visits s y) e)
+
+pub down-inside : (g s : List ℕ) (p b x : ℕ) → b < visits s (symbolFrom g p 0) → x ≡ symbolFrom g p 0 → b + 2 ≤ visits s x + 1
+down-inside g s p b x h e = omega (arith, ap (λ (y : ℕ). visits s y) e)
+
+-- ---- how many actions are left
+-- a count is at most 64
+pub count-fits : (s n : ℕ) → n ≡ bits.count 64 s → n ≤ 64
+count-fits s n e = omega (arith, count-le 64 s)
+
+pub counts-fit : (c v l x y z : ℕ) → x ≡ bits.count 64 c → y ≡ bits.count 64 v → z ≡ bits.count 64 l → x + y + z ≤ 192
+counts-fit c v l x y z e f h = omega (arith, count-le 64 c, count-le 64 v, count-le 64 l)

@@ -1,0 +1,3 @@
+pub mod RemainsLaws
+pub mod MaskLaws
+pub mod CodeLaws

@@ -1,0 +1,46 @@
+-- `remaining::start` meets its contract: each of the four sets is what its call answers. Assumes nothing.
+use borrow.Author.Needs.{needs}
+use Rattle.remaining.proofs.CodeLaws.{started-by, few-leaves}
+use Rattle.remaining.proofs.start.Statement.{statement}
+use Rattle.remaining.proofs.start.Tie as tie
+
+symbol-of-requires : tie.Need-symbol-of-requires
+symbol-of-requires c κs = search needs
+
+defining-set-requires : tie.Need-defining-set-requires
+defining-set-requires c κs = search needs
+
+all-visits-requires : tie.Need-all-visits-requires
+all-visits-requires c κs = search needs
+
+visits-of-requires : tie.Need-visits-of-requires
+visits-of-requires c κs = search needs
+
+below-requires : tie.Need-below-requires
+below-requires c κs = search few-leaves
+
+made-occurrences-requires : tie.Need-made-occurrences-requires
+made-occurrences-requires c κs = search needs
+
+inherited-of-requires : tie.Need-inherited-of-requires
+inherited-of-requires c κs = search needs
+
+minus-requires : tie.Need-minus-requires
+minus-requires c κs = search needs
+
+returns : tie.Need-returns
+returns c = search started-by
+
+pub start-spec : {M : Type 1} → statement M
+start-spec =
+    tie.close
+    (tie.spec
+    symbol-of-requires
+    defining-set-requires
+    all-visits-requires
+    visits-of-requires
+    below-requires
+    made-occurrences-requires
+    inherited-of-requires
+    minus-requires
+    returns)

@@ -1,0 +1,2 @@
+pub mod Remaining
+pub mod RuleSets

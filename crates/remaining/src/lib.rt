@@ -1,0 +1,244 @@
+// What is left of one rule's visit-sequence (000, section 6.3), whoever orders its actions: what is left before the first action, which
+// visit is ready, and what is left after an action. Three sets hold the actions, a fourth the occurrences that wait to be made available.
+ghost use mathlib.Core.Path.{_≡_};
+ghost use mathlib.Core.Bool.{cond};
+ghost use Prim.Native.Nat.{_+_, _*_, _-_, _/_, _%_, _≤_, _<_, max};
+ghost use Rattle.bits.specs.Bit as bit;
+ghost use Rattle.grammar.specs.Table as table;
+ghost use Rattle.access.specs.ByPlace as places;
+ghost use Rattle.sets.specs.Visits as visiting;
+ghost use Rattle.remaining.specs.RuleSets as masks;
+ghost use Rattle.remaining.specs.Remaining as spec;
+
+// The actions that are left, as bits: a compute by its occurrence, visit n of child i as 8i + (n - 1), leave n as n - 1.
+// An occurrence waits while an action that makes it available is left.
+pub struct State {
+    pub computes: u64,
+    pub visits: u64,
+    pub leaves: u64,
+    pub waiting: u64,
+}
+
+// An action, and what is left after it.
+pub struct Step {
+    pub action: usize,
+    pub state: State,
+}
+
+fn larger(a: usize, b: usize) -> usize
+    ensures { λ r. ⌜ r ≡ max a b ⌝ }
+{
+    if a < b {
+        return b;
+    }
+    a
+}
+
+// The set with i, if the test holds.
+fn put(set: u64, i: usize, holds: bool) -> u64
+    requires { ⌜ i < 64 ⌝ }
+    ensures { λ r. ⌜ r ≡ cond holds (bit.insert i set) set ⌝ }
+{
+    if holds {
+        return bits::with(set, i);
+    }
+    set
+}
+
+// The attributes of symbol x that are in set k.
+fn set_mask(sets: &[u16], x: usize, k: usize) -> u64
+    requires { ⌜ x < 65536 ⌝ }
+    ensures { λ r. ⌜ r ≡ masks.setMask (now (sets .entry)) x k ⌝ }
+{
+    let mut mask = 0;
+    for a in 0..8usize {
+        mask = put(mask, a, access::word(sets, 8 * x + a) == k);
+    }
+    mask
+}
+
+// The last set of symbol x.
+fn last_set(sets: &[u16], x: usize) -> usize
+    requires { ⌜ x < 65536 ⌝ }
+    ensures { λ r. ⌜ r ≡ visiting.lastSet (now (sets .entry)) x ⌝ }
+    ensures { λ r. ⌜ r < 65536 ⌝ }
+{
+    let mut last = 0;
+    for a in 0..8usize {
+        last = larger(last, access::word(sets, 8 * x + a));
+    }
+    last
+}
+
+// How many visits symbol x has.
+pub fn visits_of(sets: &[u16], x: usize) -> usize
+    requires { ⌜ x < 65536 ⌝ }
+    ensures { λ r. ⌜ r ≡ visiting.visits (now (sets .entry)) x ⌝ }
+    ensures { λ r. ⌜ r < 65536 ⌝ }
+{
+    larger(1, (last_set(sets, x) + 1) / 2)
+}
+
+// The inherited attributes of visit n of symbol x, which it takes along.
+pub fn inherited_of(sets: &[u16], x: usize, n: usize) -> u64
+    requires { ⌜ x < 65536 ⌝ }
+    requires { ⌜ n ≤ visiting.visits (now sets) x + 1 ⌝ }
+    ensures { λ r. ⌜ r ≡ masks.inheritedMask (now (sets .entry)) x n ⌝ }
+{
+    set_mask(sets, x, 2 * (visits_of(sets, x) + 1 - n))
+}
+
+// The synthesized ones, which it makes available.
+pub fn synthesized_of(sets: &[u16], x: usize, n: usize) -> u64
+    requires { ⌜ x < 65536 ⌝ }
+    requires { ⌜ n ≤ visiting.visits (now sets) x ⌝ }
+    ensures { λ r. ⌜ r ≡ masks.synthesizedMask (now (sets .entry)) x n ⌝ }
+{
+    set_mask(sets, x, 2 * (visits_of(sets, x) + 1 - n) - 1)
+}
+
+// The visits of a child, counted from 0; a terminal has none.
+fn child_visits(words: &[u16], sets: &[u16], x: usize) -> u64
+    requires { ⌜ x < 65536 ⌝ }
+    requires { ⌜ visiting.visits (now sets) x ≤ 5 ⌝ }
+    ensures { λ r. ⌜ r ≡ masks.childVisits (now (words .entry)) (now (sets .entry)) x ⌝ }
+{
+    if access::nonterminal(words, x) {
+        return bits::below(visits_of(sets, x));
+    }
+    0
+}
+
+// The visits of all children of the rule at word p.
+fn all_visits(words: &[u16], p: usize, sets: &[u16]) -> u64
+    requires { ⌜ p < 65536 ⌝ }
+    requires { ⌜ places.Shaped (now words) p ⌝ }
+    requires { ⌜ masks.Few (now words) p (now sets) ⌝ }
+    ensures { λ r. ⌜ r ≡ bit.collect 64 (λ b. masks.visitFrom (now (words .entry)) (now (sets .entry)) p b) ⌝ }
+{
+    let n = access::right_length(words, p);
+    let mut visits = 0;
+    for i in 0..n {
+        let child = child_visits(words, sets, access::symbol_of(words, p, i + 1));
+        visits = bits::union(bits::raised(child, 8 * (i + 1)), visits);
+    }
+    visits
+}
+
+// The attributes of a nonterminal; those of a terminal are always available.
+fn made_attributes(words: &[u16], x: usize) -> u64
+    requires { ⌜ x < 65536 ⌝ }
+    requires { ⌜ table.attributes (now words) x ≤ 8 ⌝ }
+    ensures { λ r. ⌜ r ≡ masks.madeAttributes (now (words .entry)) x ⌝ }
+{
+    if access::nonterminal(words, x) {
+        return bits::below(access::attributes(words, x));
+    }
+    0
+}
+
+// The occurrences of nonterminals in the rule at word p.
+fn made_occurrences(words: &[u16], p: usize) -> u64
+    requires { ⌜ p < 65536 ⌝ }
+    requires { ⌜ places.Shaped (now words) p ⌝ }
+    ensures { λ r. ⌜ r ≡ bit.collect 64 (λ o. masks.madeFrom (now (words .entry)) p o) ⌝ }
+{
+    let n = access::right_length(words, p);
+    let mut made = 0;
+    for i in 0..n + 1 {
+        let there = made_attributes(words, access::symbol_of(words, p, i));
+        made = bits::union(bits::raised(there, 8 * i), made);
+    }
+    made
+}
+
+// Before the first action. The left side's inherited attributes of visit 1 are available from the start.
+pub fn start(words: &[u16], p: usize, sets: &[u16]) -> State
+    requires { ⌜ p < 65536 ⌝ }
+    requires { ⌜ places.Shaped (now words) p ⌝ }
+    requires { ⌜ masks.Few (now words) p (now sets) ⌝ }
+    ensures { λ r. ⌜ masks.Started (now (words .entry)) (now (sets .entry)) p (r .computes) (r .visits) (r .leaves) (r .waiting) ⌝ }
+{
+    let left = access::symbol_of(words, p, 0);
+    State {
+        computes: access::defining_set(words, p),
+        visits: all_visits(words, p, sets),
+        leaves: bits::below(visits_of(sets, left)),
+        waiting: bits::minus(made_occurrences(words, p), inherited_of(sets, left, 1)),
+    }
+}
+
+// Visit b is ready: it is the next one of its child, and none of the inherited attributes that it takes along waits.
+pub fn visit_ready(words: &[u16], p: usize, sets: &[u16], visits: u64, waiting: u64, b: usize) -> bool
+    requires { ⌜ (p < 65536) × (b < 64) ⌝ }
+    requires { ⌜ b % 8 < visiting.visits (now sets) (places.symbolFrom (now words) p (b / 8)) ⌝ }
+    ensures { λ r. ⌜ r ≡ masks.visitReady (now (words .entry)) (now (sets .entry)) p visits waiting b ⌝ }
+{
+    let i = b / 8;
+    if bits::lowest(bits::field(visits, 8 * i)) < b % 8 {
+        return false;
+    }
+    let down = inherited_of(sets, access::symbol_of(words, p, i), b % 8 + 1);
+    bits::common(bits::field(waiting, 8 * i), down) == 0
+}
+
+// Compute occurrence o.
+pub fn compute(state: State, o: usize) -> Step
+    requires { ⌜ o < 64 ⌝ }
+    ensures { λ s. ⌜ spec.Done (s .action) (s .state .computes) (s .state .visits) (s .state .leaves) (s .state .waiting) o (bit.remove o (state .computes)) (state .visits) (state .leaves) (bit.remove o (state .waiting)) ⌝ }
+{
+    Step {
+        action: o,
+        state: State {
+            computes: bits::without(state.computes, o),
+            visits: state.visits,
+            leaves: state.leaves,
+            waiting: bits::without(state.waiting, o),
+        },
+    }
+}
+
+// Visit b of a child: its synthesized attributes of that visit are available then.
+pub fn visit(words: &[u16], p: usize, sets: &[u16], state: State, b: usize) -> Step
+    requires { ⌜ (p < 65536) × (b < 64) ⌝ }
+    requires { ⌜ b % 8 < visiting.visits (now sets) (places.symbolFrom (now words) p (b / 8)) ⌝ }
+    ensures { λ s. ⌜ spec.Done (s .action) (s .state .computes) (s .state .visits) (s .state .leaves) (s .state .waiting) (64 + b) (state .computes) (bit.remove b (state .visits)) (state .leaves) (bit.minus (state .waiting) (masks.handedUp (now (words .entry)) (now (sets .entry)) p b)) ⌝ }
+{
+    let i = b / 8;
+    let up = synthesized_of(sets, access::symbol_of(words, p, i), b % 8 + 1);
+    Step {
+        action: 64 + b,
+        state: State {
+            computes: state.computes,
+            visits: bits::without(state.visits, b),
+            leaves: state.leaves,
+            waiting: bits::minus(state.waiting, bits::raised(up, 8 * i)),
+        },
+    }
+}
+
+// Leave b to the parent: the left side's inherited attributes of the next visit are available then.
+pub fn leave(words: &[u16], p: usize, sets: &[u16], state: State, b: usize) -> Step
+    requires { ⌜ (p < 65536) × (b < 64) ⌝ }
+    requires { ⌜ b < visiting.visits (now sets) (places.symbolFrom (now words) p 0) ⌝ }
+    ensures { λ s. ⌜ spec.Done (s .action) (s .state .computes) (s .state .visits) (s .state .leaves) (s .state .waiting) (128 + b) (state .computes) (state .visits) (bit.remove b (state .leaves)) (bit.minus (state .waiting) (masks.handedDown (now (words .entry)) (now (sets .entry)) p b)) ⌝ }
+{
+    let down = inherited_of(sets, access::symbol_of(words, p, 0), b + 2);
+    Step {
+        action: 128 + b,
+        state: State {
+            computes: state.computes,
+            visits: state.visits,
+            leaves: bits::without(state.leaves, b),
+            waiting: bits::minus(state.waiting, down),
+        },
+    }
+}
+
+// How many actions are left.
+pub fn actions_left(state: State) -> usize
+    ensures { λ n. ⌜ n ≡ bit.count 64 (state .computes) + bit.count 64 (state .visits) + bit.count 64 (state .leaves) ⌝ }
+    ensures { λ n. ⌜ n ≤ 192 ⌝ }
+{
+    bits::count(state.computes) + bits::count(state.visits) + bits::count(state.leaves)
+}
