@@ -3,11 +3,6 @@ use Rattle.checking.proofs.TestLaws.{child-known, child-test}
 use borrow.Author.Needs.{needs}
 use Rattle.checking.proofs.child_fits.Statement.{statement}
 use Rattle.checking.proofs.child_fits.Tie as tie
-use Rattle.checking.proofs.child_fits.Reads as reads
-use Rattle.checking.proofs.child_fits.Lts as lts
-use Rattle.checking.proofs.symbol_at_node.Reads as symbol-at-node-reads
-use Rattle.reader.proofs.symbol_of.Reads as symbol-of-reads
-use Rattle.reader.proofs.word.Reads as word-reads
 
 mul-word : tie.Need-mul-word
 mul-word c = search needs

@@ -12,9 +12,6 @@ use Rattle.checking.specs.Walk.{childrenFault}
 use Rattle.checking.proofs.TestLaws.{children-passed, children-refused}
 use Rattle.checking.proofs.children_fault.Statement.{statement}
 use Rattle.checking.proofs.children_fault.Tie as tie
-use Rattle.checking.proofs.children_fault.Reads as reads
-use Rattle.checking.proofs.children_fault.Lts as lts
-use Rattle.checking.proofs.children_fit.Reads as children-fit-reads
 
 abbrev Inv-loop : tie.InvT-loop
 Inv-loop words offsets t nodes n₀ n = (n ≤ nodes) × (each n (λ m. childrenFault words t m) ≡ Good)

@@ -5,10 +5,6 @@ use native.Mathlib.Omega.{arith}
 use Rattle.checking.proofs.NameLaws.{CountedTo, counted-start, counted-known, counted-naming, counted-turn, counted-finish}
 use Rattle.checking.proofs.count_names.Statement.{statement}
 use Rattle.checking.proofs.count_names.Tie as tie
-use Rattle.checking.proofs.count_names.Reads as reads
-use Rattle.checking.proofs.count_names.Lts as lts
-use Rattle.checking.proofs.name_children.Reads as name-children-reads
-use Rattle.checking.proofs.used_slots.Reads as used-slots-reads
 
 abbrev Inv-loop : tie.InvT-loop
 Inv-loop words offsets t nodes named₀ n₀ named n = CountedTo words t named n

@@ -5,9 +5,6 @@ use native.Mathlib.Omega.{arith}
 use Rattle.checking.proofs.NameLaws.{NamedTo, named-start, named-inside, named-fits, named-turn, named-finish}
 use Rattle.checking.proofs.name_children.Statement.{statement}
 use Rattle.checking.proofs.name_children.Tie as tie
-use Rattle.checking.proofs.name_children.Reads as reads
-use Rattle.checking.proofs.name_children.Lts as lts
-use Rattle.reader.proofs.word.Reads as word-reads
 
 abbrev Inv-loop : tie.InvT-loop
 Inv-loop named₀ t n used i₀ named i = NamedTo named₀ t n used named i

@@ -3,8 +3,6 @@ use Rattle.checking.proofs.NameLaws.{once-root, once-other}
 use borrow.Author.Needs.{needs}
 use Rattle.checking.proofs.named_once.Statement.{statement}
 use Rattle.checking.proofs.named_once.Tie as tie
-use Rattle.checking.proofs.named_once.Reads as reads
-use Rattle.checking.proofs.named_once.Lts as lts
 
 returns : tie.Need-returns
 returns c = search once-root

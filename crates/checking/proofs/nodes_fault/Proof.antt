@@ -9,9 +9,6 @@ use Rattle.trees.specs.Checking.{nodeFault}
 use Rattle.reader.proofs.Laws.{each-none, each-more, each-stop, each-end}
 use Rattle.checking.proofs.nodes_fault.Statement.{statement}
 use Rattle.checking.proofs.nodes_fault.Tie as tie
-use Rattle.checking.proofs.nodes_fault.Reads as reads
-use Rattle.checking.proofs.nodes_fault.Lts as lts
-use Rattle.checking.proofs.node_fault.Reads as node-fault-reads
 
 abbrev Inv-loop : tie.InvT-loop
 Inv-loop words offsets t nodes n₀ n = (n ≤ nodes) × (each n (λ m. nodeFault words t m) ≡ Good)

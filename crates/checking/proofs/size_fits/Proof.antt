@@ -2,8 +2,6 @@
 use Rattle.checking.proofs.TestLaws.{size-all, size-none, size-part}
 use Rattle.checking.proofs.size_fits.Statement.{statement}
 use Rattle.checking.proofs.size_fits.Tie as tie
-use Rattle.checking.proofs.size_fits.Reads as reads
-use Rattle.checking.proofs.size_fits.Lts as lts
 
 returns : tie.Need-returns
 returns c = search size-all

@@ -3,9 +3,6 @@ use Rattle.checking.proofs.TestLaws.{slot-inside, slot-low, slot-unused
 use borrow.Author.Needs.{needs}
 use Rattle.checking.proofs.slot_fits.Statement.{statement}
 use Rattle.checking.proofs.slot_fits.Tie as tie
-use Rattle.checking.proofs.slot_fits.Reads as reads
-use Rattle.checking.proofs.slot_fits.Lts as lts
-use Rattle.reader.proofs.word.Reads as word-reads
 
 mul-word : tie.Need-mul-word
 mul-word c = search needs

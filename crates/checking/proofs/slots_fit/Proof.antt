@@ -9,9 +9,6 @@ use Rattle.checking.specs.Walk.{slotTestsTo}
 use Rattle.checking.proofs.TestLaws.{slots-none, slots-more, slots-stop, slots-end}
 use Rattle.checking.proofs.slots_fit.Statement.{statement}
 use Rattle.checking.proofs.slots_fit.Tie as tie
-use Rattle.checking.proofs.slots_fit.Reads as reads
-use Rattle.checking.proofs.slots_fit.Lts as lts
-use Rattle.checking.proofs.slot_fits.Reads as slot-fits-reads
 
 abbrev Inv-loop : tie.InvT-loop
 Inv-loop t n used i₀ i = (i ≤ 7) × (slotTestsTo t n used i ≡ true)

@@ -9,9 +9,6 @@ use Rattle.checking.specs.Walk.{childTestsTo}
 use Rattle.checking.proofs.TestLaws.{used-slot, children-none, children-more, children-stop, children-end}
 use Rattle.checking.proofs.slots_match.Statement.{statement}
 use Rattle.checking.proofs.slots_match.Tie as tie
-use Rattle.checking.proofs.slots_match.Reads as reads
-use Rattle.checking.proofs.slots_match.Lts as lts
-use Rattle.checking.proofs.child_fits.Reads as child-fits-reads
 
 abbrev Inv-loop : tie.InvT-loop
 Inv-loop words offsets t n p used i₀ i = (i ≤ used) × (childTestsTo words t n i ≡ true)
