@@ -1,7 +1,7 @@
 -- The loop of a run: after each action the arrays hold the automaton after that many steps. Below the total a node is on top, so an empty stack
 -- says that the total is reached, and a budget that is used up before says that it is not. Assumes nothing.
 use Prim.Native.Nat.{ℕ, zero, suc, _+_, _*_, _-_, _/_, _%_, _≤_, _<_, min}
-use mathlib.Core.Path.{_≡_, refl, sym, _∙_, ap, subst}
+use mathlib.Core.Path.{_≡_, refl, sym, _∙_, ap, subst, subst⁻¹}
 use mathlib.Core.Logic.{⊎-elim}
 use mathlib.Core.List.{List, [], _∷_}
 use native.Mathlib.Omega.{arith}
@@ -21,6 +21,8 @@ use Rattle.sequences.proofs.ActionLaws.{decode-compute, decode-visit, action-be
 use Rattle.trees.specs.Tree.{nodes, ruleOf, appliesRule, child, cell}
 use Rattle.trees.specs.Checking.{checkTree}
 use Rattle.trees.proofs.Cells.{cell-inside}
+use Rattle.evaluating.specs.Places.{Valued}
+use Rattle.evaluating.proofs.ValuedLaws.{function-valued}
 use Rattle.running.specs.declared.Ran as R
 use Rattle.planning.specs.Sequences.{actionAt}
 use Rattle.running.specs.Sound.{Sound}
@@ -184,6 +186,15 @@ module _ {g p t : List ℕ} {entry : List ℤ} {stack places : List ℕ} {depth 
         ∙ (ap (functionOf g r) (sym (function-for (facts .table) r (v .0) rule-known (v .1)))
         ∙ ap (λ (o : ℕ). functionOf g r (functionFor g r o)) (v .2)))
 
+    function-reads : (starts : List ℕ) → Located g starts → action < 64 → Valued g (word starts (64 * ruleOf t top + action)) t top (length values)
+    function-reads starts located h =
+        let v = facts .table .defined (ruleOf t top) action rule-known (defines h) in
+        let e : functionFor g (ruleOf t top) action ≡ v .0 =
+                ap (functionFor g (ruleOf t top)) (sym (v .2)) ∙ function-for (facts .table) (ruleOf t top) (v .0) rule-known (v .1) in
+        subst⁻¹ (λ (l : ℕ). Valued g (word starts (64 * ruleOf t top + action)) t top l) running-length
+        (function-valued (facts .table) (facts .tree) top (v .0) _ inside applies (v .1)
+        (function-is starts located h ∙ ap (functionOf g (ruleOf t top)) e))
+
     cell-fits : action < 64 → cell t top action < length values
     cell-fits h =
         omega (arith,
@@ -220,6 +231,7 @@ module _ {g p t : List ℕ} {entry : List ℤ} {stack places : List ℕ} {depth 
             planned = omega (arith, rule-known, k .planned);
             isAction = action-below g p (ruleOf t top) action belongs;
             function = function-is starts located;
+            valued = function-reads starts located;
             inValues = cell-fits;
             room = room-for
         }

@@ -1,7 +1,7 @@
 -- One action on the arrays is one step of the machine that they hold: the place of the node on top goes on by one, a compute writes
 -- its value, a visit writes the child above the top, a leave lowers the depth. Assumes nothing.
 use Prim.Native.Nat.{ℕ, zero, suc, _+_, _*_, _-_, _/_, _%_, _^_, _≤_, _<_}
-use mathlib.Core.Path.{_≡_, refl, sym, _∙_, ap, ap₂, subst}
+use mathlib.Core.Path.{_≡_, refl, sym, _∙_, ap, ap₂, subst, subst⁻¹}
 use mathlib.Core.List.{List, [], _∷_}
 use native.Mathlib.Omega.{arith}
 use native.Mathlib.Numerals.{add-one}
@@ -16,7 +16,7 @@ use Rattle.grammar.specs.Table.{functionOf}
 use Rattle.sequences.specs.Actions.{Action, compute, visit, leave, decode}
 use Rattle.sequences.proofs.ActionLaws.{decode-compute, decode-visit, decode-leave}
 use Rattle.trees.specs.Tree.{nodes, ruleOf, child, cell}
-use Rattle.evaluating.specs.Places.{valueFrom}
+use Rattle.evaluating.specs.Places.{valueFrom, Valued}
 use Rattle.evaluating.proofs.PlaceLaws.{kept, by-number}
 use Rattle.planning.specs.Sequences.{actionAt}
 use Rattle.running.specs.Automaton.{Machine, functionFor, computed, act, step}
@@ -122,6 +122,12 @@ module _ {g p t starts : List ℕ} {l : ℕ} {stack places : List ℕ} {depth : 
         ∙ (ap₂ (λ (x y : ℕ). word starts (64 * x + y)) (isRule ∙ ap (ruleOf t) isNode) top-action
         ∙ (w .function (omega (arith, top-action))
         ∙ ap₂ (λ (x y : ℕ). functionOf g (ruleOf t x) (functionFor g (ruleOf t x) y)) (sym isNode) (sym top-action)))
+
+    pub valued-there : action < 64 → (f : ℕ) → f ≡ word starts (64 * r + action) → Valued g f t n l
+    valued-there h f e =
+        subst⁻¹ (λ (x : ℕ). Valued g f t x l) isNode
+        (subst⁻¹ (λ (x : ℕ). Valued g x t (topOf stack depth) l)
+        (e ∙ ap₂ (λ (x y : ℕ). word starts (64 * x + y)) (isRule ∙ ap (ruleOf t) isNode) top-action) (w .valued (omega (arith, top-action))))
 
     pub cell-there : action < 64 → cell t n action < l
     cell-there h =

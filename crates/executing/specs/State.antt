@@ -8,7 +8,7 @@ use lib.ListN.{length, take, set}
 use Rattle.basics.specs.Lists.{word}
 use Rattle.grammar.specs.Table.{functionOf}
 use Rattle.trees.specs.Tree.{nodes, ruleOf, cell}
-use Rattle.evaluating.specs.Places.{valueFrom}
+use Rattle.evaluating.specs.Places.{valueFrom, Valued}
 use Rattle.planning.specs.Sequences.{actionAt}
 use Rattle.running.specs.Automaton.{Machine, functionFor, step}
 
@@ -50,6 +50,8 @@ pub record Ready (g p t starts : List ℕ) (valuesLength : ℕ) (stack places : 
   pub function : topAction p t stack places depth < 64
       → word starts (64 * ruleOf t (topOf stack depth) + topAction p t stack places depth)
       ≡ functionOf g (ruleOf t (topOf stack depth)) (functionFor g (ruleOf t (topOf stack depth)) (topAction p t stack places depth))
+  pub valued : topAction p t stack places depth < 64
+      → Valued g (word starts (64 * ruleOf t (topOf stack depth) + topAction p t stack places depth)) t (topOf stack depth) valuesLength
   pub inValues : topAction p t stack places depth < 64 → cell t (topOf stack depth) (topAction p t stack places depth) < valuesLength
   pub room : 64 ≤ topAction p t stack places depth → topAction p t stack places depth < 128 → depth < 1024
 

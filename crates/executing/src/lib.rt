@@ -10,6 +10,7 @@ ghost use Rattle.grammar.specs.Reading.{readTable};
 ghost use Rattle.reader.specs.Offsets.{offsetsFor};
 ghost use Rattle.trees.specs.Tree as trees;
 ghost use Rattle.trees.specs.Checking.{checkTree};
+ghost use Rattle.evaluating.specs.Places.{Valued};
 ghost use Rattle.planning.specs.Sequences as sequences;
 ghost use Rattle.running.specs.Sound.{Sound};
 ghost use Rattle.running.specs.Run as runs;
@@ -76,7 +77,8 @@ fn action_at(plan: &[u16], r: usize, place: usize) -> usize
 
 // Computes occurrence o of the rule at node n, whose function starts at word f.
 fn compute(words: &[u16], f: usize, tree: &[u16], values: &mut [i32], n: usize, o: usize)
-    requires { ⌜ (f < 65536) × ((n < 65536) × (o < 65536)) ⌝ }
+    requires { ⌜ Valued (now words) f (now tree) n (length (now values)) ⌝ }
+    requires { ⌜ (n < trees.nodes (now tree)) × ((n < 65536) × (o < 64)) ⌝ }
     requires { ⌜ trees.cell (now tree) n o < length (now values) ⌝ }
     ensures { λ _. ⌜ now (values .exit) ≡ state.written (now (words .entry)) (now (tree .entry)) (now (values .entry)) n o f ⌝ }
 {

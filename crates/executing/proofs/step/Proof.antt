@@ -2,7 +2,7 @@
 -- stack and values. That the node, its place and its action are there, and that a visit finds room, is what `Ready` says. Assumes nothing.
 use native.Mathlib.Omega.{arith}
 use borrow.Author.Needs.{needs}
-use Rattle.executing.proofs.StateLaws.{place-there, rule-there, cell-there, room-there, step-compute, step-visit, step-leave}
+use Rattle.executing.proofs.StateLaws.{place-there, rule-there, valued-there, cell-there, room-there, step-compute, step-visit, step-leave}
 use Rattle.executing.proofs.step.Statement.{statement}
 use Rattle.executing.proofs.step.Tie as tie
 
@@ -71,10 +71,9 @@ wide-requires-3 c κs = search needs
 
 compute-requires : tie.Need-compute-requires
 compute-requires c κs =
-    ((omega arith, (omega arith, omega arith)), cell-there (c .before .before .before .before .before .before .before .before .before
-    .before .before .before .before .pre) (c .before .before .before .before .before .before .before .before .wide .ensures .0) (c .before
-    .before .before .before .before .before .before .rule-of .ensures) (c .before .before .before .before .before .wide2 .ensures .0) (c
-    .before .before .before .before .action-at .ensures) (c .before .before .before .if1 .taken))
+    (valued-there (c .before .before .before .before .before .before .before .before .before .before .before .before .before .pre) (c .before .before .before .before .before .before .before .before .wide .ensures .0) (c .before .before .before .before .before .before .before .rule-of .ensures) (c .before .before .before .before .before .wide2 .ensures .0) (c .before .before .before .before .action-at .ensures) (c .before .before .before .if1 .taken) _ (c .before .wide3 .ensures .0),
+    ((omega arith, (omega arith, omega arith)),
+    cell-there (c .before .before .before .before .before .before .before .before .before .before .before .before .before .pre) (c .before .before .before .before .before .before .before .before .wide .ensures .0) (c .before .before .before .before .before .before .before .rule-of .ensures) (c .before .before .before .before .before .wide2 .ensures .0) (c .before .before .before .before .action-at .ensures) (c .before .before .before .if1 .taken)))
 
 same-length : tie.Need-same-length
 same-length c = search needs
