@@ -8,6 +8,7 @@ use lib.ListN.{length}
 use Rattle.grammar.specs.declared.Verdict.the-variants.{Good}
 use Rattle.grammar.specs.Table.{rules}
 use Rattle.grammar.specs.Reading.{readTable}
+use Rattle.reader.specs.Offsets.{offsetsFor}
 use Rattle.planning.specs.Answer.{Outcome, accepted, outcome, planAfter}
 use Rattle.trees.specs.Checking.{checkTree}
 use Rattle.running.specs.declared.Ran as R
@@ -30,9 +31,10 @@ unfoldable pub values : List ℕ → List ℕ → List ℕ → List ℕ → List
 values g rows plan t vs budget =
     valuesAfter g (leftPlan g rows plan) t (came g rows plan) (checkTree g t (length vs)) vs budget
 
--- p is a plan that can be run: the table is accepted, the plan is sound and none of it is missing
-pub record Planned (g p : List ℕ) : Type 0 where
+-- p is a plan that can be run, whoever drew it up: the table is accepted, its rules start at the offsets, the plan is sound and none of it is missing
+pub record Runnable (g offsets p : List ℕ) : Type 0 where
   pub good : readTable g ≡ Good
+  pub starts : offsets ≡ offsetsFor g Good
   pub soundPlan : sound.Sound g p
   pub long : 256 + 112 * rules g ≤ length p
 

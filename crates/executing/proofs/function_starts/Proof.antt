@@ -35,7 +35,8 @@ wide-requires c κs = search needs
 
 locate-rule-requires : tie.Need-locate-rule-requires Inv-loop μ-loop
 locate-rule-requires c κs =
-    ((c .before .before .before .before .loop .inv .1 .good), ((omega arith, (c .before .wide .ensures .0) ∙ offset-is _ _ _ _ (c .before .before .before .before .loop .inv .1) (omega arith)), (c .before .before .before .before .loop .inv .1 .size)))
+    let inv = c .before .before .before .before .loop .inv .1 in
+    (inv .good, ((omega arith, c .before .wide .ensures .0 ∙ offset-is _ _ _ _ inv (omega arith)), inv .size))
 
 add-r : tie.Need-add-r Inv-loop μ-loop
 add-r c = search needs
@@ -45,7 +46,8 @@ loop-less c = search needs
 
 loop-again : tie.Need-loop-again Inv-loop μ-loop
 loop-again c =
-    ((c .before .before .before .before .before .loop .inv .0), all-turn _ _ _ _ (c .locate-rule .last .1 .1 .1 .0) (c .before .before .before .before .before .loop .inv .1) (omega arith) (c .locate-rule .ensures))
+    let turn = c .before .before .before .before in
+    (turn .before .loop .inv .0, all-turn _ _ _ _ (c .locate-rule .last .1 .1 .1 .0) (turn .before .loop .inv .1) (omega arith) (c .locate-rule .ensures))
 
 returns : tie.Need-returns Inv-loop μ-loop
 returns c = all-finish _ _ _ _ _ (c .before .loop .inv .1) (c .before .loop .inv .0) (c .loop-test .left)
