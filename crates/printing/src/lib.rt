@@ -2,6 +2,7 @@
 use libc::STDOUT_FILENO;
 use refusals::Refusal;
 use running::Ran;
+use running::Report;
 
 // A word as it stands.
 pub fn word(text: &[u8]) {
@@ -46,7 +47,8 @@ fn refusal(r: Refusal) {
 }
 
 // What a run answered.
-pub fn answer(ran: Ran) {
+pub fn answer(report: Report) {
+    let ran = report.ran;
     match ran {
         Ran::Done(count) => {
             word(b"done");

@@ -26,6 +26,7 @@ use Rattle.planning.proofs.RowWords.{over-size}
 use Rattle.planning.proofs.PlanWords.{plan-length}
 use Rattle.trees.specs.Checking.{checkTree}
 use Rattle.running.specs.declared.Ran as R
+use Rattle.running.specs.declared.Report.{Report}
 use Rattle.running.specs.Run.{ran, runAnswer, valuesAfter}
 use Rattle.running.proofs.PlannedSound.{planned-sound}
 use Rattle.runner.specs.Answered.{Answered}
@@ -33,7 +34,7 @@ use Rattle.runner.specs.Whole.{came, leftPlan, answer, values, Runnable,
 
 -- 12 to 18 leave the values
 pub tree-refused : (g p t : List ℕ) (vs : List ℤ) (budget : ℕ) (v : Verdict) (n : Refusal) → v ≡ checkTree g t (length vs) → v ≡ Refused n
-    → Checked g p t vs budget (R.the-variants.Refused n) vs
+    → Checked g p t vs budget (record { ran = R.the-variants.Refused n }) vs
 unfolding runAnswer valuesAfter
 tree-refused g p t vs budget v n e f =
     let q : checkTree g t (length vs) ≡ Refused n = sym e ∙ f in
@@ -43,7 +44,8 @@ tree-refused g p t vs budget v n e f =
     }
 
 pub tree-ran : (g p t : List ℕ) (vs : List ℤ) (budget : ℕ) (v : Verdict) (r : R.Ran) (next : List ℤ) → v ≡ checkTree g t (length vs) → v ≡ Good
-    → r ≡ ran g p t vs budget .answer → next ≡ ran g p t vs budget .machine .values → Checked g p t vs budget r next
+    → r ≡ ran g p t vs budget .answer → next ≡ ran g p t vs budget .machine .values
+    → Checked g p t vs budget (record { ran = r }) next
 unfolding runAnswer valuesAfter
 tree-ran g p t vs budget v r next e f a b =
     let q : checkTree g t (length vs) ≡ Good = sym e ∙ f in
@@ -88,14 +90,14 @@ module _ (g rows plan : List ℕ) (planned : P.Planned) (rows′ plan′ : List 
 
   module _ (t : List ℕ) (vs : List ℤ) (budget : ℕ) where
     pub run-refused : (n : Refusal) → planned ≡ P.the-variants.Refused n
-        → Answered g rows plan t vs budget (R.the-variants.Refused n) vs rows′ plan′
+        → Answered g rows plan t vs budget (record { ran = R.the-variants.Refused n }) vs rows′ plan′
     unfolding came answer values
     run-refused n e =
         let o : Outcome = outcome g (length rows) (length plan) in
         let a = refused-answer g o n (leftPlan g rows plan) t (checkTree g t (length vs)) vs budget (sym e ∙ w .answers) in
         record { answers = a .0; valuesAre = a .1; rowsAre = w .rowsAre; planIs = w .planIs }
 
-    pub run-ran : (n : ℕ) (r : R.Ran) (next : List ℤ) → planned ≡ P.the-variants.Accepted n → Checked g plan′ t vs budget r next
+    pub run-ran : (n : ℕ) (r : Report) (next : List ℤ) → planned ≡ P.the-variants.Accepted n → Checked g plan′ t vs budget r next
         → Answered g rows plan t vs budget r next rows′ plan′
     unfolding came answer values
     run-ran n r next e d =

@@ -12,6 +12,7 @@ use Rattle.reader.specs.Offsets.{offsetsFor}
 use Rattle.planning.specs.Answer.{Outcome, accepted, outcome, planAfter}
 use Rattle.trees.specs.Checking.{checkTree}
 use Rattle.running.specs.declared.Ran as R
+use Rattle.running.specs.declared.Report.{Report}
 use Rattle.running.specs.Sound as sound
 use Rattle.running.specs.Run.{runAnswer, valuesAfter}
 
@@ -39,6 +40,6 @@ pub record Runnable (g offsets p : List ℕ) : Type 0 where
   pub long : 256 + 112 * rules g ≤ length p
 
 -- what the check of the tree and the run of plan p answer and leave
-pub record Checked (g p t : List ℕ) (vs : List ℤ) (budget : ℕ) (ran : R.Ran) (vs′ : List ℤ) : Type 0 where
-  pub answers : ran ≡ runAnswer g p t accepted (checkTree g t (length vs)) vs budget
+pub record Checked (g p t : List ℕ) (vs : List ℤ) (budget : ℕ) (report : Report) (vs′ : List ℤ) : Type 0 where
+  pub answers : report .ran ≡ runAnswer g p t accepted (checkTree g t (length vs)) vs budget
   pub valuesAre : vs′ ≡ valuesAfter g p t accepted (checkTree g t (length vs)) vs budget
