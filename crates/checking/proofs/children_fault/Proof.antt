@@ -1,4 +1,5 @@
--- `checking::children_fault` meets its contract. Assumes nothing.
+-- `checking::children_fault` meets its contract: the walk goes on past every node that fits, so the first that does not is the one that is answered.
+-- Assumes nothing.
 use Rattle.refusals.specs.declared.Refusal.the-variants.{ChildDiffers}
 use borrow.Author.Needs.{needs}
 use Prim.Native.Nat.{_≤_, _-_}

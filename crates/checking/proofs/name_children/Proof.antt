@@ -1,4 +1,6 @@
--- `checking::name_children` meets its contract. Assumes nothing.
+-- `checking::name_children` meets its contract: the invariant NamedTo says that each count has grown by the slots so far that name its node. A node has at
+-- most seven, so no count passes 16 bits.
+-- Assumes nothing.
 use borrow.Author.Needs.{needs}
 use Prim.Native.Nat.{_-_}
 use native.Mathlib.Omega.{arith}

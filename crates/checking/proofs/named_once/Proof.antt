@@ -1,4 +1,5 @@
--- `checking::named_once` meets its contract. Assumes nothing.
+-- `checking::named_once` meets its contract: the root is exempt, and for another node the test is 01's.
+-- Assumes nothing.
 use Rattle.checking.proofs.NameLaws.{once-root, once-other}
 use borrow.Author.Needs.{needs}
 use Rattle.checking.proofs.named_once.Statement.{statement}

@@ -1,4 +1,5 @@
--- `checking::names_fault` meets its contract. Assumes nothing.
+-- `checking::names_fault` meets its contract: the walk goes on past every node that is named once, so the first that is not is the one that is answered.
+-- Assumes nothing.
 use borrow.Author.Needs.{needs}
 use Prim.Native.Nat.{_≤_, _-_}
 use mathlib.Core.Path.{_≡_, refl}

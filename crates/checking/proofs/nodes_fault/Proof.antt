@@ -1,4 +1,5 @@
--- `checking::nodes_fault` meets its contract. Assumes nothing.
+-- `checking::nodes_fault` meets its contract: the walk goes on past every node without a fault, so the first fault is the one that is answered.
+-- Assumes nothing.
 use native.Mathlib.Omega.{arith}
 use borrow.Author.Needs.{needs}
 use Prim.Native.Nat.{_≤_, _-_}

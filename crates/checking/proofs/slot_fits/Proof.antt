@@ -1,4 +1,5 @@
--- `checking::slot_fits` meets its contract. Assumes nothing.
+-- `checking::slot_fits` meets its contract: a used slot is above its node and a node, an unused one is zero; each way out is one of these.
+-- Assumes nothing.
 use Rattle.checking.proofs.TestLaws.{slot-inside, slot-low, slot-unused}
 use borrow.Author.Needs.{needs}
 use Rattle.checking.proofs.slot_fits.Statement.{statement}

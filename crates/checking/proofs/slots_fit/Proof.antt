@@ -1,4 +1,5 @@
--- `checking::slots_fit` meets its contract. Assumes nothing.
+-- `checking::slots_fit` meets its contract: the invariant says that the slots so far fit; the first that does not settles the test of all seven.
+-- Assumes nothing.
 use native.Mathlib.Omega.{arith}
 use borrow.Author.Tests.{not-true, not-false}
 use borrow.Author.Needs.{needs}

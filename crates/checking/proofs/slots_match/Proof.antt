@@ -1,4 +1,5 @@
--- `checking::slots_match` meets its contract. Assumes nothing.
+-- `checking::slots_match` meets its contract: the invariant says that the slots so far match; the first that does not settles the test of all.
+-- Assumes nothing.
 use borrow.Author.Needs.{needs}
 use Prim.Native.Nat.{_≤_, _-_}
 use mathlib.Core.Path.{_≡_}
