@@ -1,10 +1,20 @@
-/* Planning and running attributed grammars: the C functions of the static library (rt staticlib exports). A lent buffer is a pointer and its
-   count of elements; buffers do not overlap. Nothing is kept between calls, and there is no heap. */
+/* Planning and running attributed grammars: the C functions of the static library. A lent buffer is a pointer and its count of elements; buffers
+   do not overlap. Nothing is kept between calls, and there is no heap. C++ may include this too. */
 #ifndef SKARNUTH_H
 #define SKARNUTH_H
 
 #include <stddef.h>
 #include <stdint.h>
+
+/* The version of the library and of this header; the file VERSION has it. */
+#define SKARNUTH_VERSION "0.2.0"
+#define SKARNUTH_VERSION_MAJOR 0
+#define SKARNUTH_VERSION_MINOR 2
+#define SKARNUTH_VERSION_PATCH 0
+
+#ifdef __cplusplus
+extern "C" {
+#endif
 
 /* The status that a call returns. */
 enum { SKARNUTH_DONE = 0, SKARNUTH_STOPPED = 1, SKARNUTH_REFUSED = 2 };
@@ -19,5 +29,9 @@ uint32_t skarnuth_plan(const uint16_t *words, size_t words_count, uint64_t *rows
 uint32_t skarnuth_run(const uint16_t *words, size_t words_count, uint64_t *rows, size_t rows_count, uint16_t *plan, size_t plan_count,
                       const uint16_t *tree, size_t tree_count, int32_t *values, size_t values_count, uint32_t budget,
                       uint64_t *count, uint64_t *number, uint64_t *place, uint64_t *second);
+
+#ifdef __cplusplus
+}
+#endif
 
 #endif

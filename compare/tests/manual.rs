@@ -5,6 +5,7 @@ use independent::{proved, Ran, Refusal};
 use std::process::Command;
 
 const MANUAL: &str = include_str!("../../docs/MANUAL.md");
+const ROOT: &str = concat!(env!("CARGO_MANIFEST_DIR"), "/..");
 /// What lent buffers hold before a call, so that what is left as found shows.
 const ROW: u64 = 0x7777_7777_7777_7777;
 const WORD: u16 = 0x7777;
@@ -39,8 +40,13 @@ fn setting<T: std::str::FromStr>(text: &str) -> (usize, T) {
     (numbers(at)[0], numbers(value).pop().unwrap())
 }
 
+/// Table G, the words of a readable table, or words.
 fn table(text: &str) -> Vec<u16> {
-    if text == "G" { G.to_vec() } else { numbers(text) }
+    match text {
+        "G" => G.to_vec(),
+        file if file.ends_with(".table") => numbers(&shell(&format!("skarnuth words --decimal {file}"))),
+        words => numbers(words),
+    }
 }
 
 fn told(answer: Result<(&str, usize), Refusal>) -> String {
@@ -100,31 +106,47 @@ fn check(lines: &[&str]) {
     }
 }
 
-/// The listing of a table that is accepted, as document 01 prints it.
-fn listing(words: &[u16]) -> Vec<String> {
-    let (symbols, rules) = (words[0] as usize, words[1] as usize);
-    let mut plan = vec![0; 256 + 112 * rules];
-    proved::plan(words, &mut vec![0; 64 * rules], &mut plan).unwrap();
-    let join = |numbers: &[u16]| numbers.iter().map(|n| format!(" {n}")).collect::<String>();
-    let mut out = vec![format!("plan {symbols} {rules}")];
-    for x in 0..symbols {
-        let (kind, attributes) = (words[3 + 3 * x], words[4 + 3 * x] as usize);
-        if kind == 0 {
-            let sets = &plan[8 * x..8 * x + attributes];
-            let visits = sets.iter().max().map_or(1, |m| m.div_ceil(2).max(1));
-            out.push(format!("s {x} {visits}{}", join(sets)));
+/// Runs a line of shell at the repository's root, with its commands on the path: what it prints on standard output and standard error together.
+fn shell(line: &str) -> String {
+    let path = format!("{ROOT}/bin:{}", std::env::var("PATH").unwrap());
+    let out = Command::new("sh").current_dir(ROOT).env("PATH", path).args(["-c", &format!("exec 2>&1; {line}")]).output().unwrap();
+    String::from_utf8(out.stdout).unwrap()
+}
+
+/// What a terminal shows: lines that begin with `$ ` are typed, the lines below each are printed.
+fn console(lines: &[&str]) {
+    assert!(lines[0].starts_with("$ "), "a console begins with a command: {lines:?}");
+    let mut printed = Vec::new();
+    for (at, line) in lines.iter().enumerate().filter(|(_, line)| line.starts_with("$ ")) {
+        let until = lines[at + 1..].iter().position(|l| l.starts_with("$ ")).map_or(lines.len(), |n| at + 1 + n);
+        let expected: String = lines[at + 1..until].iter().map(|l| format!("{l}\n")).collect();
+        assert_eq!(shell(&line[2..]), expected, "of {line}");
+        printed.push(until);
+    }
+    assert_eq!(printed.last(), Some(&lines.len()));
+}
+
+/// The operations of the grammar, with their arguments: each is read, and with an argument less or more it is not.
+fn grammar(lines: &[&str]) {
+    let text = lines.join("\n");
+    let operations = text.split("operation  = ").nth(1).unwrap().split("\noccurrence").next().unwrap();
+    let head = "start z\nnonterminal z s.v\nterminal t s.p\nrule z = t\n  z.v =";
+    let mut count = 0;
+    for line in operations.lines() {
+        let words: Vec<&str> = line.trim_start_matches([' ', '|']).split(' ').map(|w| w.trim_matches('"')).collect();
+        let argument = if words[1] == "NUMBER" { "-7" } else { "t.p" };
+        for given in words.len() - 2..=words.len() {
+            let table = format!("{head} {}{}", words[0], format!(" {argument}").repeat(given));
+            let status = shell(&format!("printf '{}\n' '{}' | skarnuth words - > /dev/null 2> /dev/null; echo $?", "%s", table));
+            assert_eq!(status, if given == words.len() - 1 { "0\n" } else { "2\n" }, "{table}");
         }
+        count += 1;
     }
-    for r in 0..rules {
-        let at = 256 + 112 * r;
-        out.push(format!("r {r}{}", join(&plan[at + 1..at + 1 + plan[at] as usize])));
-    }
-    out
+    assert_eq!(count, 9);
 }
 
 #[test]
 fn every_block_is_true() {
-    let root = concat!(env!("CARGO_MANIFEST_DIR"), "/..");
     let mut numbers_given = [false; 19];
     for (kind, lines) in blocks() {
         let (kind, of) = kind.split_once(' ').unwrap_or((kind, ""));
@@ -137,15 +159,13 @@ fn every_block_is_true() {
                 }
             }
             "table" => assert_eq!(numbers::<u16>(&lines.join(" ")), table(of)),
-            "listing" => assert_eq!(lines, listing(&table(of))),
+            "console" => console(&lines),
+            "grammar" => grammar(&lines),
             "file" => {
-                let file = std::fs::read_to_string(format!("{root}/{of}")).unwrap_or_else(|e| panic!("{of}: {e}"));
+                let file = std::fs::read_to_string(format!("{ROOT}/{of}")).unwrap_or_else(|e| panic!("{of}: {e}"));
                 assert!(file.contains(&lines.join("\n")), "{of} does not have these lines: {lines:?}");
             }
-            "sh" => {
-                let out = Command::new("sh").current_dir(root).args(["-c", &lines.join("\n")]).output().unwrap();
-                assert_eq!(numbers::<u16>(&String::from_utf8(out.stdout).unwrap()), G);
-            }
+            "sh" => assert_eq!(numbers::<u16>(&shell(&lines.join("\n"))), G),
             _ => panic!("a block of no known kind: {kind}"),
         }
     }

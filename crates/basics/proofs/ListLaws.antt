@@ -3,16 +3,16 @@
 use Prim.Native.Nat.{ℕ, zero, suc, _+_, _*_, _-_, _≤_, _<_}
 use mathlib.Core.Path.{_≡_, refl, sym, _∙_, ap, subst, subst⁻¹}
 use mathlib.Core.Logic.{_⊎_, inl, inr, ⊎-elim}
-use mathlib.Core.Bool.{Bool, true, false, cond, not}
+use mathlib.Core.Bool.{Bool, true, false, cond}
 use mathlib.Core.List.{List, [], _∷_, _++_}
 use native.Mathlib.Omega.{arith}
 use native.Mathlib.Nat.{not-suc-le-zero, suc-mul, zero-mul, mul-le-mul-right}
-use lib.Dec.{T, eqb, eqb→eq, eqb-refl, T-not}
+use lib.Dec.{T, eqb, eqb→eq, eqb-refl}
 use lib.ListN.{length, getD, set, length-append, List·getD-append, replicate, length-replicate}
 use native.Mathlib.Numerals.{add-one}
 use lib.Seq.{getD-append-add, set-at, append-snoc}
-use Rattle.basics.specs.Lists.{word, tabulate, blocks, padded, passing, member, any, without}
-use Rattle.basics.proofs.TestLaws.{below-suc, below-or-not, or-left, or-right, or-cases, tested, true-T, false-T, eq-T}
+use Rattle.basics.specs.Lists.{tabulate, blocks, padded, passing, member, any}
+use Rattle.basics.proofs.TestLaws.{below-suc, or-left, or-right, or-cases, true-T, eq-T}
 
 -- the element of s ++ t at a place past s
 pub getD-past {ℓ} : {A : Type ℓ} (s t : List A) (d : A) (i : ℕ) → length s ≤ i → getD (s ++ t) i d ≡ getD t (i - length s) d

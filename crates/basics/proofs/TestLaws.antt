@@ -1,12 +1,12 @@
 -- What the tests mean: each passes exactly where its words hold, so a proof goes from a test to a fact and back.
 -- Assumes nothing.
 use Prim.Native.Nat.{ℕ, zero, suc, _+_, _≤_, _<_}
-use mathlib.Core.Path.{_≡_, refl, sym, ap, subst}
-use mathlib.Core.Logic.{_⊎_, inl, inr, ⊎-elim, _↔_}
+use mathlib.Core.Path.{_≡_, refl, sym, subst}
+use mathlib.Core.Logic.{_⊎_, inl, inr, ⊎-elim}
 use mathlib.Core.Bool.{Bool, true, false, cond, not}
 use native.Mathlib.Omega.{arith}
 use native.Mathlib.Nat.{not-suc-le-zero}
-use lib.Dec.{T, ltb, leb, eqb, ltb→lt, lt→ltb, eqb→eq, eqb-refl, nltb→le, leb→le, nleb→lt, T-not, not-T}
+use lib.Dec.{T, ltb, eqb, ltb→lt, eqb→eq, eqb-refl, nltb→le, T-not}
 use Rattle.basics.specs.Tests.{_and_, _or_, _implies_, some, all, least, count}
 
 pub or-left : (a b : Bool) → T a → T (a or b)

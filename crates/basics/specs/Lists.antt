@@ -1,11 +1,11 @@
 -- Lists of words by their places: the words of a rule, blocks laid end to end, the members that pass a test.
 -- Assumes nothing.
 use Prim.Native.Nat.{ℕ, zero, suc, _-_}
-use mathlib.Core.Bool.{Bool, true, false, cond}
+use mathlib.Core.Bool.{Bool, false, cond}
 use mathlib.Core.List.{List, [], _∷_, _++_}
 use lib.Dec.{eqb}
 use Rattle.basics.specs.Tests.{_or_}
-use lib.ListN.{getD, length, take, replicate}
+use lib.ListN.{getD, length, replicate}
 
 -- the word at a place, 0 past the end
 abbrev pub word : List ℕ → ℕ → ℕ

@@ -1,7 +1,7 @@
 -- Members of sets as tests: of a collected set, of a union, of a set with a number put in or taken out, and that a set is known by them.
 -- Assumes nothing.
-use Prim.Native.Nat.{ℕ, _^_, _<_, max}
-use mathlib.Core.Path.{_≡_, refl, sym, _∙_, ap, subst, subst⁻¹}
+use Prim.Native.Nat.{ℕ, _^_, _<_}
+use mathlib.Core.Path.{_≡_, refl, sym, _∙_, ap, subst⁻¹}
 use mathlib.Core.Logic.{_⊎_, inl, inr, ⊎-elim}
 use mathlib.Core.Bool.{Bool, true, false, not}
 use native.Mathlib.Omega.{arith}
@@ -9,7 +9,7 @@ use lib.Dec.{T, eqb, eqb→eq, T-not}
 use Rattle.basics.proofs.TestLaws.{true-T, T-true, false-T, same-or-not, below-or-not}
 use Rattle.bits.specs.Bit.{bit, number, hasb, collect, insert, remove, union, common, minus}
 use Rattle.bits.proofs.BitLaws.{bit-above, bit-cases, bit-ext, bit-has, bit-lacks, bit-le, bit-of-zero, has-bit, number-hasb}
-use Rattle.bits.proofs.CollectLaws.{bit-collect, collect-lt}
+use Rattle.bits.proofs.CollectLaws.{bit-collect}
 use Rattle.bits.proofs.SetLaws.{bit-union, bit-common, bit-minus, bit-insert-same, bit-insert-other, bit-remove-same, bit-remove-other}
 
 -- a collected set has the numbers that pass

@@ -12,14 +12,14 @@ use Rattle.basics.proofs.TestLaws.{chosen, passed-over}
 use Rattle.refusals.specs.declared.Refusal.{Refusal}
 use Rattle.grammar.specs.declared.Verdict.{Verdict}
 use Rattle.grammar.specs.declared.Verdict.the-variants.{Good, Refused}
-use Rattle.planning.specs.Answer.{Outcome, untouched, circularIdp, unordered, accepted, outcome}
+use Rattle.plans.specs.Answer.{Outcome, untouched, circularIdp, unordered, accepted, outcome}
 use Rattle.trees.specs.Checking.{checkTree}
-use Rattle.running.specs.declared.Ran as R
-use Rattle.running.specs.Automaton.{started}
-use Rattle.running.specs.Run.{ran, runAnswer, valuesAfter}
+use Rattle.runs.specs.declared.Ran as R
+use Rattle.runs.specs.Automaton.{started}
+use Rattle.runs.specs.Run.{ran, runAnswer, valuesAfter}
 use Rattle.runner.specs.Whole.{came, leftPlan, answer, values}
 use Rattle.cases.specs.First.{roomWalk, idpWalk, readyWalk, walk, earlierWalk}
-use Rattle.cases.specs.All.{inPlan, PlanRefuses, Refuses}
+use Rattle.cases.specs.AllCases.{inPlan, PlanRefuses, Refuses}
 use Rattle.cases.proofs.PlanTests.{refusedWith, plan-walk, plan-outcome, plan-done}
 use Rattle.cases.proofs.RunTests.{runs, run-refused}
 

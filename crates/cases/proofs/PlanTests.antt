@@ -18,35 +18,35 @@ use Rattle.grammar.specs.Limits.{rowWords, planWords}
 use Rattle.grammar.specs.Table.{rules, ruleCounts}
 use Rattle.grammar.specs.Reading.{readTable}
 use Rattle.grammar.specs.Verdicts.{_then_, unless}
-use Rattle.grammar.proofs.Accepted.{accepted}
+use Rattle.grammar.proofs.AcceptedTable.{accepted}
 use Rattle.relations.specs.Paper.{IDP⁺, OnCycle}
 use Rattle.relations.specs.Computed.{idsOf}
 use Rattle.relations.proofs.PathLaws.{path-first}
 use Rattle.relations.proofs.Occurrences.{occurs-below}
-use Rattle.relations.proofs.Exact.{idp-path-exact}
+use Rattle.relations.proofs.ExactIdp.{idp-path-exact}
 use Rattle.relations.proofs.Induced.{idp-path-from}
 use Rattle.sets.specs.Visits.{setNumber}
-use Rattle.ordered.specs.Paper.{PaperSets, EDP, CircularIDP, IsOrdered, LowestCycle}
-use Rattle.ordered.specs.Computed.{circular}
-use Rattle.ordered.proofs.Exact.{edp-path-exact, edp-from}
-use Rattle.ordered.proofs.Cycles.{cycle-found}
-use Rattle.ordered.proofs.WholeGrammar.{computedSets, sets-exist, edp-paths-same}
+use Rattle.order.specs.Paper.{PaperSets, EDP, CircularIDP, IsOrdered, LowestCycle}
+use Rattle.order.specs.Computed.{circular}
+use Rattle.order.proofs.ExactEdp.{edp-path-exact, edp-from}
+use Rattle.order.proofs.Cycles.{cycle-found}
+use Rattle.order.proofs.WholeGrammar.{computedSets, sets-exist, edp-paths-same}
 use Rattle.sequences.specs.Paper.{LeftOut}
 use Rattle.sequences.proofs.PaperSequence.{none-left-out}
-use Rattle.planning.specs.declared.Planned as P
-use Rattle.planning.specs.Answer.{
+use Rattle.plans.specs.declared.Planned as P
+use Rattle.plans.specs.Answer.{
     Outcome, untouched, circularIdp, unordered, accepted as accepts, room, stuckIn, idpPaths, edpPaths, afterEdp, afterIdp, afterRoom,
     afterReading, outcome, answerOf
 }
-use Rattle.planning.proofs.Answers.{setsFor, idpRule, idpOccurrence, idpCycle, edpRule, edpOccurrence, edpCycle, no-idp-cycle, no-edp-cycle}
-use Rattle.planning.proofs.Ordered.{CycleFree, never-stuck, free-ordered}
+use Rattle.plans.proofs.Answers.{setsFor, idpRule, idpOccurrence, idpCycle, edpRule, edpOccurrence, edpCycle, no-idp-cycle, no-edp-cycle}
+use Rattle.plans.proofs.Ordered.{CycleFree, never-stuck, free-ordered}
 use Rattle.cases.specs.First.{
     roomWalk, idpWalk, readyWalk, walk, Earlier, earlierWalk, earlierPlace, lowerOccurrence, lowerNumber, First, GoesBy
 }
-use Rattle.cases.specs.Planning.{PlanningCase, PlanCase, inTable, inPlanning}
-use Rattle.cases.specs.Planning as case
-use Rattle.cases.specs.Table.{TableCase}
-use Rattle.cases.specs.All.{PlanRefuses}
+use Rattle.cases.specs.PlanningCases.{PlanningCase, PlanCase, inTable, inPlanning}
+use Rattle.cases.specs.PlanningCases as case
+use Rattle.cases.specs.TableCases.{TableCase}
+use Rattle.cases.specs.AllCases.{PlanRefuses}
 use Rattle.cases.proofs.FirstLaws.{good-not-refused, same-refused, later-walk, Found, nothing, fault, by-finding, goes-then}
 use Rattle.cases.proofs.TableTests.{table-number, table-walk, table-verdict}
 

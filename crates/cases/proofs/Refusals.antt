@@ -12,17 +12,17 @@ use Rattle.grammar.specs.declared.Verdict.the-variants.{Good, Refused}
 use Rattle.grammar.specs.Limits.{planWords}
 use Rattle.grammar.specs.Table.{rules}
 use Rattle.grammar.specs.Reading.{readTable}
-use Rattle.grammar.proofs.Accepted.{accepted as well-formed}
-use Rattle.planning.specs.declared.Planned as P
-use Rattle.planning.specs.Answer.{accepted, outcome, answerOf}
+use Rattle.grammar.proofs.AcceptedTable.{accepted as well-formed}
+use Rattle.plans.specs.declared.Planned as P
+use Rattle.plans.specs.Answer.{accepted, outcome, answerOf}
 use Rattle.trees.specs.Checking.{checkTree}
-use Rattle.running.specs.declared.Ran as R
+use Rattle.runs.specs.declared.Ran as R
 use Rattle.runner.specs.Whole.{answer}
 use Rattle.cases.specs.First.{First}
-use Rattle.cases.specs.Table.{TableCase}
-use Rattle.cases.specs.Planning.{PlanCase}
-use Rattle.cases.specs.Tree.{TreeCase}
-use Rattle.cases.specs.All.{RunCase, PlanRefuses, Refuses}
+use Rattle.cases.specs.TableCases.{TableCase}
+use Rattle.cases.specs.PlanningCases.{PlanCase}
+use Rattle.cases.specs.TreeCases.{TreeCase}
+use Rattle.cases.specs.AllCases.{RunCase, PlanRefuses, Refuses}
 use Rattle.cases.proofs.TableTests.{table-verdict}
 use Rattle.cases.proofs.PlanTests.{refusedWith}
 use Rattle.cases.proofs.PlanTests as plan

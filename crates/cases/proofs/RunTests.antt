@@ -13,17 +13,17 @@ use Rattle.grammar.specs.declared.Verdict.{Verdict}
 use Rattle.grammar.specs.declared.Verdict.the-variants.{Good, Refused}
 use Rattle.grammar.specs.Verdicts.{_then_}
 use Rattle.grammar.specs.Reading.{readTable}
-use Rattle.grammar.proofs.Accepted.{accepted}
-use Rattle.planning.specs.Answer.{Outcome, untouched, circularIdp, unordered, accepted as accepts, outcome}
+use Rattle.grammar.proofs.AcceptedTable.{accepted}
+use Rattle.plans.specs.Answer.{Outcome, untouched, circularIdp, unordered, accepted as accepts, outcome}
 use Rattle.trees.specs.Checking.{checkTree}
-use Rattle.running.specs.declared.Ran as R
-use Rattle.running.specs.Automaton.{Machine, started, step}
-use Rattle.running.specs.Run.{Ended, idle, lastAnswer, runOn, ran, runAnswer}
+use Rattle.runs.specs.declared.Ran as R
+use Rattle.runs.specs.Automaton.{Machine, started, step}
+use Rattle.runs.specs.Run.{Ended, idle, lastAnswer, runOn, ran, runAnswer}
 use Rattle.runner.specs.Whole.{came, leftPlan, answer}
 use Rattle.cases.specs.First.{GoesBy}
-use Rattle.cases.specs.Planning.{PlanCase, inTable}
-use Rattle.cases.specs.Tree.{TreeCase}
-use Rattle.cases.specs.All.{RunCase, inPlan, inTree, Refuses}
+use Rattle.cases.specs.PlanningCases.{PlanCase, inTable}
+use Rattle.cases.specs.TreeCases.{TreeCase}
+use Rattle.cases.specs.AllCases.{RunCase, inPlan, inTree, Refuses}
 use Rattle.cases.proofs.FirstLaws.{good-not-refused, goes-then}
 use Rattle.cases.proofs.TableTests.{table-verdict}
 use Rattle.cases.proofs.PlanTests.{verdictOf, plan-walk, plan-verdict}

@@ -32,11 +32,11 @@ use Rattle.grammar.specs.Reading.{
     ruleBefore, ruleFault, leftOver, readTable
 }
 use Rattle.grammar.proofs.VerdictLaws.{each-at}
-use Rattle.grammar.proofs.Accepted.{ranged-passes, header-start, symbol-formed}
-use Rattle.grammar.proofs.Places.{functions-rise, rule-step, rules-rise}
+use Rattle.grammar.proofs.AcceptedTable.{ranged-passes, header-start, symbol-formed}
+use Rattle.grammar.proofs.RuleStarts.{functions-rise, rule-step, rules-rise}
 use Rattle.cases.specs.First.{symbolWalk, startWalk, ruleWalk, wordWalk, walk}
-use Rattle.cases.specs.Table.{HasFunction, TableCase}
-use Rattle.cases.specs.Table as case
+use Rattle.cases.specs.TableCases.{HasFunction, TableCase}
+use Rattle.cases.specs.TableCases as case
 use Rattle.cases.proofs.PassedLaws.{Within, within-good, within-then, within-unless, within-each}
 
 -- The turn of a case 1 to 7 as one number, twice its place: 3 at word 2 has its turn just before the first word of the first rule.

@@ -27,13 +27,13 @@ use Rattle.grammar.specs.Reading.{
     present, ranged, header, symbolFault, startClass, leftFault, definedBelow, argumentFault, functionFault, bodyFault, complete,
     ruleBefore, ruleFault, leftOver, readTable
 }
-use Rattle.grammar.proofs.Accepted.{defining-occurs}
+use Rattle.grammar.proofs.AcceptedTable.{defining-occurs}
 use Rattle.grammar.proofs.OccurrenceLaws.{occurs-inside}
-use Rattle.grammar.proofs.Places.{functions-rise, rule-step, rules-rise}
+use Rattle.grammar.proofs.RuleStarts.{functions-rise, rule-step, rules-rise}
 use Rattle.cases.specs.First.{ruleWalk, walk, Earlier, earlierWalk, earlierPlace, lowerOccurrence, lowerNumber, GoesBy}
 use Rattle.cases.proofs.FirstLaws.{later-walk}
-use Rattle.cases.specs.Table.{HasFunction, TableCase}
-use Rattle.cases.specs.Table as case
+use Rattle.cases.specs.TableCases.{HasFunction, TableCase}
+use Rattle.cases.specs.TableCases as case
 use Rattle.cases.proofs.PassedLaws.{
     Ends, ends-then, ends-unless, ends-each, Passed, passed-down, passed-first, passed-second, passed-unless, passed-each, by-keys
 }

@@ -28,10 +28,10 @@ use Rattle.trees.specs.Checking.{
     sizeFits, knownWord, slotFits, slotsFit, nodeFault, rootIsStart, childrenFit, namesNode, onceChild, checkTree
 }
 use Rattle.trees.specs.Formed.{ChildOf}
-use Rattle.trees.proofs.Accepted.{used-slots, used-child, slot-names, names-slot}
+use Rattle.trees.proofs.AcceptedTree.{used-slots, used-child, slot-names, names-slot}
 use Rattle.cases.specs.First.{walk, Earlier, earlierWalk, earlierPlace, lowerOccurrence, lowerNumber, GoesBy}
-use Rattle.cases.specs.Tree.{NamesTerminal, TreeCase}
-use Rattle.cases.specs.Tree as case
+use Rattle.cases.specs.TreeCases.{NamesTerminal, TreeCase}
+use Rattle.cases.specs.TreeCases as case
 use Rattle.cases.proofs.PassedLaws.{
     ends-unless, Within, within-then, within-unless, within-each, Passed, passed-down, passed-first, passed-all, passed-second,
     passed-unless, passed-each, by-keys

@@ -1,5 +1,5 @@
 pub mod First
-pub mod Table
-pub mod Planning
-pub mod Tree
-pub mod All
+pub mod TableCases
+pub mod PlanningCases
+pub mod TreeCases
+pub mod AllCases

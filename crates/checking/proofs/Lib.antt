@@ -1,3 +1,3 @@
-pub mod TestLaws
+pub mod NodeTestLaws
 pub mod NameLaws
-pub mod WholeLaws
+pub mod WholeCheckLaws

@@ -20,7 +20,7 @@ use Rattle.refusals.specs.declared.Refusal.the-variants.{NotOneParent}
 use Rattle.grammar.specs.declared.Verdict.{Verdict}
 use Rattle.grammar.specs.declared.Verdict.the-variants.{Good, Refused}
 use Rattle.grammar.specs.Verdicts.{_then_, unless, each}
-use Rattle.reader.proofs.Laws.{unless-true, unless-false}
+use Rattle.access.proofs.Laws.{unless-true, unless-false}
 use Rattle.checking.specs.Walk.{Known, slotNames, Naming, NamedMore, Names, namedOnce, namedFault}
 
 -- counting on from a

@@ -13,7 +13,7 @@ use Rattle.grammar.specs.declared.Verdict.{Verdict}
 use Rattle.grammar.specs.declared.Verdict.the-variants.{Good}
 use Rattle.grammar.specs.Verdicts.{unless}
 use Rattle.grammar.specs.Reading.{readTable}
-use Rattle.reader.specs.Offsets.{offsetsFor}
+use Rattle.access.specs.Offsets.{offsetsFor}
 use Rattle.grammar.specs.Table.{ruleAt, symbolOf}
 use Rattle.trees.specs.Tree.{nodes, ruleOf, child, usedSlots, symbolAtNode}
 use Rattle.trees.specs.Checking.{knownWord, childrenFit, namesNode}

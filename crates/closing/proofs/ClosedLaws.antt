@@ -11,7 +11,7 @@ use lib.ListN.{length}
 use Rattle.bits.specs.Bit.{hasb}
 use Rattle.bits.proofs.MemberLaws.{hasb-below, hasb-collect, union-cases, union-left, union-right}
 use Rattle.bits.proofs.CollectLaws.{collect-lt}
-use Rattle.basics.specs.Tests.{_and_, _or_}
+use Rattle.basics.specs.Tests.{_and_}
 use Rattle.basics.specs.Lists.{word}
 use Rattle.basics.proofs.TestLaws.{
     and-intro, and-left, and-right, or-left, or-right, or-cases, chosen, passed-over, tested, eq-T, some-at, some-find

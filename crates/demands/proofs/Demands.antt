@@ -8,41 +8,41 @@ use lib.Dec.{T}
 use lib.IntN.{ℤ}
 use lib.ListN.{length}
 use Rattle.refusals.specs.declared.Refusal.{Refusal}
-use Rattle.grammar.specs.Limits.{rowWords, planWords}
+use Rattle.grammar.specs.Limits.{planWords}
 use Rattle.grammar.specs.declared.Verdict.{Verdict}
 use Rattle.grammar.specs.declared.Verdict.the-variants.{Good}
 use Rattle.grammar.specs.Table.{rules, ruleCounts}
 use Rattle.grammar.specs.Reading.{readTable}
 use Rattle.grammar.specs.WellFormed.{WellFormed}
-use Rattle.grammar.proofs.Formed.{accepted-exactly as read-exactly}
-use Rattle.ordered.specs.Paper.{IsOrdered}
-use Rattle.ordered.proofs.WholeGrammar.{computedSets, one-numbering, ordered-idp, sets-exist, neighbouring-same}
+use Rattle.grammar.proofs.FormedTable.{accepted-exactly as read-exactly}
+use Rattle.order.specs.Paper.{IsOrdered}
+use Rattle.order.proofs.WholeGrammar.{computedSets, one-numbering, ordered-idp, sets-exist, neighbouring-same}
 use Rattle.sequences.specs.Paper.{Sequence}
 use Rattle.sequences.proofs.PaperSequence.{sequence-obeys, sequence-only, none-left-out}
-use Rattle.planning.specs.declared.Planned as P
-use Rattle.planning.specs.Answer.{Outcome, accepted, outcome, room, answerOf, rowsAfter, planAfter}
-use Rattle.planning.proofs.Ordered.{accepted-exactly, ordered-free}
-use Rattle.planning.proofs.Left.{accepted-written}
-use Rattle.planning.proofs.Stays.{accepted-room, rows-stay, plan-stay}
+use Rattle.plans.specs.declared.Planned as P
+use Rattle.plans.specs.Answer.{Outcome, accepted, outcome, room, answerOf, rowsAfter, planAfter}
+use Rattle.plans.proofs.Ordered.{accepted-exactly, ordered-free}
+use Rattle.plans.proofs.Left.{accepted-written}
+use Rattle.plans.proofs.Stays.{accepted-room, rows-stay, plan-stay}
 use Rattle.planner.specs.Answered.{Answered}
 use Rattle.planner.proofs.RoomLaws.{both-long}
 use Rattle.trees.specs.Checking.{checkTree}
-use Rattle.trees.proofs.Accepted.{accepted-tree}
-use Rattle.running.specs.declared.Ran as R
-use Rattle.running.specs.declared.Report.{Report}
-use Rattle.running.specs.Sound.{Sound}
-use Rattle.running.specs.Automaton.{Machine}
-use Rattle.running.specs.Totals.{totalOf, total}
-use Rattle.running.specs.Run.{ran, runAnswer, valuesAfter}
-use Rattle.running.proofs.PlannedSound.{planned-sound}
-use Rattle.running.proofs.Totals.{total-stands}
-use Rattle.running.proofs.EverySoundPlan as run
+use Rattle.trees.proofs.AcceptedTree.{accepted-tree}
+use Rattle.runs.specs.declared.Ran as R
+use Rattle.runs.specs.declared.Report.{Report}
+use Rattle.runs.specs.Sound.{Sound}
+use Rattle.runs.specs.Automaton.{Machine}
+use Rattle.runs.specs.Totals.{totalOf, total}
+use Rattle.runs.specs.Run.{ran, runAnswer, valuesAfter}
+use Rattle.runs.proofs.PlannedSound.{planned-sound}
+use Rattle.runs.proofs.Totals.{total-stands}
+use Rattle.runs.proofs.EverySoundPlan as run
 use Rattle.runner.specs.Whole as whole
 use Rattle.runner.specs.Answered as runner
 use Rattle.cases.specs.First.{readyWalk, walk}
-use Rattle.cases.specs.Planning.{PlanCase}
-use Rattle.cases.specs.Tree.{TreeCase}
-use Rattle.cases.specs.All.{RunCase, inPlan, inTree, PlanRefuses, Refuses}
+use Rattle.cases.specs.PlanningCases.{PlanCase}
+use Rattle.cases.specs.TreeCases.{TreeCase}
+use Rattle.cases.specs.AllCases.{RunCase, inPlan, inTree, PlanRefuses, Refuses}
 use Rattle.cases.proofs.TreeTests.{tree-place}
 use Rattle.cases.proofs.PlanTests.{plan-walk}
 use Rattle.cases.proofs.Refusals.{outcome-accepted, planning-refused, planning-accepted, tree-good, run-refused}

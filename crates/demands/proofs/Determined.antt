@@ -20,29 +20,29 @@ use Rattle.grammar.specs.declared.Verdict.the-variants.{Good}
 use Rattle.grammar.specs.Table.{rules, ruleCounts}
 use Rattle.grammar.specs.Reading.{readTable}
 use Rattle.grammar.specs.WellFormed.{WellFormed}
-use Rattle.grammar.proofs.Formed.{accepted-exactly as read-exactly}
+use Rattle.grammar.proofs.FormedTable.{accepted-exactly as read-exactly}
 use Rattle.relations.specs.Paper.{IDP⁺}
 use Rattle.relations.specs.Computed.{idsOf}
 use Rattle.sets.specs.Computed.{setsOf}
-use Rattle.ordered.specs.Paper.{PaperSets, CircularIDP, IsOrdered}
-use Rattle.ordered.proofs.WholeGrammar.{computedSets, ordered-idp, sets-exist}
+use Rattle.order.specs.Paper.{PaperSets, CircularIDP, IsOrdered}
+use Rattle.order.proofs.WholeGrammar.{computedSets, ordered-idp, sets-exist}
 use Rattle.sequences.specs.Order.{sequenceOf}
 use Rattle.sequences.specs.Paper.{Sequence}
 use Rattle.sequences.proofs.PaperSequence.{sequence-obeys}
-use Rattle.planning.specs.declared.Planned as P
-use Rattle.planning.specs.Sequences.{sequenceLength, actionAt}
-use Rattle.planning.specs.Answer.{Outcome, untouched, circularIdp, unordered, accepted, outcome, answerOf, rowsAfter, planAfter}
-use Rattle.planning.specs.Left.{RowsHold, EDP⁺, SequenceStands, Written, Beyond}
-use Rattle.planning.proofs.Stays.{past-room, rows-stay, plan-stay}
+use Rattle.plans.specs.declared.Planned as P
+use Rattle.plans.specs.Sequences.{sequenceLength, actionAt}
+use Rattle.plans.specs.Answer.{Outcome, untouched, circularIdp, unordered, accepted, outcome, answerOf, rowsAfter, planAfter}
+use Rattle.plans.specs.Left.{RowsHold, EDP⁺, SequenceStands, Written, Beyond}
+use Rattle.plans.proofs.Stays.{past-room, rows-stay, plan-stay}
 use Rattle.planner.specs.Answered.{Answered}
-use Rattle.running.specs.declared.Ran as R
-use Rattle.running.specs.declared.Report.{Report}
-use Rattle.running.specs.Computing.{machineAt}
-use Rattle.running.specs.Totals.{totalOf}
+use Rattle.runs.specs.declared.Ran as R
+use Rattle.runs.specs.declared.Report.{Report}
+use Rattle.runs.specs.Computing.{machineAt}
+use Rattle.runs.specs.Totals.{totalOf}
 use Rattle.runner.specs.Whole as whole
 use Rattle.runner.specs.Answered as runner
 use Rattle.cases.specs.First.{roomWalk, idpWalk, readyWalk, walk}
-use Rattle.cases.specs.All.{RunCase, PlanRefuses, Refuses}
+use Rattle.cases.specs.AllCases.{RunCase, PlanRefuses, Refuses}
 use Rattle.cases.proofs.PlanTests.{refusedWith, plan-walk}
 use Rattle.cases.proofs.Refusals.{
     outcome-refused, outcome-accepted, planning-refused, planning-accepted, run-refused, run-carried-out

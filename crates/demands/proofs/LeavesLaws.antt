@@ -14,14 +14,14 @@ use Rattle.refusals.specs.declared.Refusal.the-variants.{CircularIdp}
 use Rattle.grammar.specs.declared.Verdict.the-variants.{Good}
 use Rattle.grammar.specs.Reading.{readTable}
 use Rattle.relations.specs.Paper.{IDP⁺}
-use Rattle.ordered.specs.Paper.{PaperSets, CircularIDP}
-use Rattle.planning.specs.Answer.{Outcome, untouched, circularIdp, unordered, accepted, outcome, rowsAfter, planAfter}
-use Rattle.planning.specs.Left.{RowsHold, EDP⁺, Written}
-use Rattle.planning.proofs.Left.{nine-holds, ten-holds, accepted-written}
+use Rattle.order.specs.Paper.{PaperSets, CircularIDP}
+use Rattle.plans.specs.Answer.{Outcome, untouched, circularIdp, unordered, accepted, outcome, rowsAfter, planAfter}
+use Rattle.plans.specs.Left.{RowsHold, EDP⁺, Written}
+use Rattle.plans.proofs.Left.{nine-holds, ten-holds, accepted-written}
 use Rattle.cases.specs.First.{ruleWalk, roomWalk, idpWalk, readyWalk, walk, earlierWalk}
-use Rattle.cases.specs.Planning.{inTable, inPlanning}
-use Rattle.cases.specs.Planning as case
-use Rattle.cases.specs.All.{PlanRefuses}
+use Rattle.cases.specs.PlanningCases.{inTable, inPlanning}
+use Rattle.cases.specs.PlanningCases as case
+use Rattle.cases.specs.AllCases.{PlanRefuses}
 use Rattle.cases.proofs.TableTests.{table-walk}
 use Rattle.cases.proofs.PlanTests.{refusedWith}
 use Rattle.cases.proofs.Refusals.{table-good, outcome-refused, outcome-accepted}

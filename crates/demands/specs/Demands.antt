@@ -14,22 +14,22 @@ use Rattle.grammar.specs.Limits.{rowWords, planWords}
 use Rattle.grammar.specs.Table.{rules, functions, target, argument, arguments, position, ruleCounts}
 use Rattle.grammar.specs.WellFormed.{WellFormed}
 use Rattle.relations.specs.Paper.{IDP⁺, Path⁺}
-use Rattle.ordered.specs.Paper.{PaperSets, Neighbouring, CircularIDP, IsOrdered}
+use Rattle.order.specs.Paper.{PaperSets, Neighbouring, CircularIDP, IsOrdered}
 use Rattle.sequences.specs.Paper.{Sequence, LeftOut}
-use Rattle.planning.specs.declared.Planned as P
-use Rattle.planning.specs.Left.{RowsHold, EDP⁺, Written, Beyond}
+use Rattle.plans.specs.declared.Planned as P
+use Rattle.plans.specs.Left.{RowsHold, EDP⁺, Written, Beyond}
 use Rattle.trees.specs.Tree.{ruleOf, appliesRule, nodeAt, cell}
 use Rattle.trees.specs.Equations.{valueAt, Solution, SameTerminals}
 use Rattle.trees.specs.Definers.{AttributeOf}
-use Rattle.running.specs.declared.Ran as R
-use Rattle.running.specs.declared.Report.{Report}
-use Rattle.running.specs.Sound.{Sound}
-use Rattle.running.specs.Depth.{longestDown}
-use Rattle.running.specs.Totals.{totalOf}
-use Rattle.running.specs.Computing.{machineAt, Computing, ComputedBefore, ExactlyOnce}
+use Rattle.runs.specs.declared.Ran as R
+use Rattle.runs.specs.declared.Report.{Report}
+use Rattle.runs.specs.Sound.{Sound}
+use Rattle.runs.specs.Depth.{longestDown}
+use Rattle.runs.specs.Totals.{totalOf}
+use Rattle.runs.specs.Computing.{machineAt, Computing, ComputedBefore, ExactlyOnce}
 use Rattle.cases.specs.First.{roomWalk, idpWalk, readyWalk, walk}
-use Rattle.cases.specs.Planning.{PlanCase}
-use Rattle.cases.specs.All.{RunCase, PlanRefuses, Refuses}
+use Rattle.cases.specs.PlanningCases.{PlanCase}
+use Rattle.cases.specs.AllCases.{RunCase, PlanRefuses, Refuses}
 
 -- 1. "Every table, tree and buffer size gets an answer. Input is refused exactly where a numbered case applies, by that number at a
 -- stated place, and what each refusal leaves in the caller's buffers is fixed."

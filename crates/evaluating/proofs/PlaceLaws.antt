@@ -20,7 +20,7 @@ use Rattle.grammar.specs.Table.{argumentWords, isConstant, functionOf, operatio
 use Rattle.trees.specs.Tree.{ruleOf, nodeAt, cell}
 use Rattle.trees.specs.Equations.{valueAt, argumentValue, functionValue}
 use Rattle.trees.proofs.Cells.{cell-is}
-use Rattle.evaluating.specs.Places.{operationAt, argumentAt, argumentsAt, occurrenceValue, argumentFrom, valueFrom, Named}
+use Rattle.evaluating.specs.FunctionPlaces.{operationAt, argumentAt, argumentsAt, occurrenceValue, argumentFrom, valueFrom, Named}
 
 -- ---- a value in the machine is read back whole
 

@@ -12,12 +12,12 @@ use Rattle.grammar.specs.Table.{
     rules, argumentWords, isConstant, functionsAt, functionAt, ruleAt, functions, functionOf, operation, argument, arguments, occurrence
 }
 use Rattle.grammar.specs.WellFormed.{WellFormed}
-use Rattle.grammar.proofs.Accepted.{occurrence-fits}
-use Rattle.grammar.proofs.Places.{argument-words, functions-rise, rules-rise, formed-length}
+use Rattle.grammar.proofs.AcceptedTable.{occurrence-fits}
+use Rattle.grammar.proofs.RuleStarts.{argument-words, functions-rise, rules-rise, formed-length}
 use Rattle.trees.specs.Tree.{nodes, ruleOf, appliesRule}
 use Rattle.trees.specs.Formed.{TreeFormed}
 use Rattle.trees.proofs.Cells.{cell-inside}
-use Rattle.evaluating.specs.Places.{operationAt, Named, Valued}
+use Rattle.evaluating.specs.FunctionPlaces.{operationAt, Named, Valued}
 use Rattle.evaluating.proofs.PlaceLaws.{words-two, words-three, words-four}
 
 -- ---- at least so many arguments

@@ -5,7 +5,7 @@ ghost use lib.ListN.{length};
 ghost use Rattle.basics.specs.Lists.{word};
 ghost use Rattle.values.specs.Value.{constant};
 ghost use Rattle.trees.specs.Tree as trees;
-ghost use Rattle.evaluating.specs.Places as places;
+ghost use Rattle.evaluating.specs.FunctionPlaces as places;
 
 // A word as an index.
 fn wide(x: u16) -> usize

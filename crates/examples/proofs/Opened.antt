@@ -12,19 +12,19 @@ use Rattle.relations.specs.Paths.{path}
 use Rattle.sets.specs.Computed.{takes, placedUpTo, setsOfSymbol, setsOf}
 use Rattle.sets.specs.Paper.{ofClass}
 use Rattle.sets.specs.Visits.{setNumber, highest, lastSet, visits, visitOfSet, visitOf}
-use Rattle.ordered.specs.Computed.{besideArc, edp, edpPath, hasCycle, circular, cycleRule, cycleOccurrence}
+use Rattle.order.specs.Computed.{besideArc, edp, edpPath, hasCycle, circular, cycleRule, cycleOccurrence}
 use Rattle.sequences.specs.Actions.{decode, belongs, isAction, actionsOf, visitAt, inheritedOf, synthesizedOf, makes}
 use Rattle.sequences.specs.Follows.{linked, beforeVisit, beforeLeave, besides, follows}
 use Rattle.sequences.specs.Order.{ready, firstReady, order, sequenceOf, isStuck}
-use Rattle.planning.specs.Answer.{room, stuckIn, idpPaths, edpPaths, afterEdp, afterIdp, afterRoom, afterReading, outcome, sequencesOf, acceptedPlan, answerOf, rowsAfter, planAfter}
-use Rattle.planning.specs.Buffers.{over, rowsOf, sequenceWords, planOf}
+use Rattle.plans.specs.Answer.{room, stuckIn, idpPaths, edpPaths, afterEdp, afterIdp, afterRoom, afterReading, outcome, sequencesOf, acceptedPlan, answerOf, rowsAfter, planAfter}
+use Rattle.plans.specs.Buffers.{over, rowsOf, sequenceWords, planOf}
 use Rattle.trees.specs.Checking.{sizeFits, knownWord, slotFits, slotsFit, nodeFault, rootIsStart, childrenFit, namesNode, onceChild, checkTree}
 use Rattle.trees.specs.Equations.{argumentValue, functionValue}
 use Rattle.trees.specs.Tree.{usedSlots, symbolAtNode, nodeAt, cell}
-use Rattle.running.specs.Automaton.{started, functionFor, computed, act, actionOf, stepOn, step, after}
-use Rattle.running.specs.Totals.{totalUpTo, total}
-use Rattle.running.specs.Run.{idle, lastAnswer, runOn, ran, runAnswer, valuesAfter}
-use Rattle.planning.specs.Sequences.{sequenceLength, actionAt}
+use Rattle.runs.specs.Automaton.{started, functionFor, computed, act, actionOf, stepOn, step, after}
+use Rattle.runs.specs.Totals.{totalUpTo, total}
+use Rattle.runs.specs.Run.{idle, lastAnswer, runOn, ran, runAnswer, valuesAfter}
+use Rattle.plans.specs.Sequences.{sequenceLength, actionAt}
 use Rattle.text.specs.Lines.{digits, decimal, spaced, line}
 use Rattle.text.specs.Listing.{refusalLine, firstLine, symbolLine, ruleLine, planText, outcomeText, tableText, wordsOf, bytesText, listing}
 use Rattle.examples.specs.Claims.{planned, ranG}

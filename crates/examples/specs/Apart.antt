@@ -11,8 +11,8 @@ use Rattle.grammar.specs.Table.{symbols, rules}
 use Rattle.relations.specs.Computed.{idsOf}
 use Rattle.sets.specs.Computed.{setsOf}
 use Rattle.sets.specs.Visits.{visits}
-use Rattle.ordered.specs.Computed.{circular}
-use Rattle.planning.specs.Answer.{accepted, unordered, edpPaths, sequencesOf}
+use Rattle.order.specs.Computed.{circular}
+use Rattle.plans.specs.Answer.{accepted, unordered, edpPaths, sequencesOf}
 use Rattle.examples.specs.Claims.{planned}
 use Rattle.examples.specs.NearMisses.{
     chainOfTwo, chainOfThree, orderElsewhere, handedDown, fromTheEnd, writtenLater, nothingUp, expressions, computationSequences,

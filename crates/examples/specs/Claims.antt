@@ -1,10 +1,10 @@
 -- The claims of document 01's checked examples that are marked P, one field a claim.
 -- Assumes nothing.
-use Prim.Native.Nat.{ℕ, _+_, _*_}
+use Prim.Native.Nat.{ℕ}
 use mathlib.Core.Path.{_≡_}
 use mathlib.Core.List.{List, [], _∷_, _++_}
 use lib.IntN.{ℤ, pos}
-use lib.ListN.{length, take, set}
+use lib.ListN.{take, set}
 use Rattle.values.specs.Value.{result, greatest}
 use Rattle.refusals.specs.declared.Refusal.the-variants.{EndsEarly, OutOfRange, LeftOver, CircularIdp, CircularEdp}
 use Rattle.grammar.specs.Limits.{mostRules, rowWords, planWords}
@@ -14,10 +14,9 @@ use Rattle.sets.specs.Visits.{visits}
 use Rattle.grammar.specs.declared.Verdict.the-variants.{Good}
 use Rattle.trees.specs.Checking.{checkTree}
 use Rattle.trees.specs.Equations.{valueAt}
-use Rattle.planning.specs.Answer.{Outcome, untouched, circularIdp, unordered, accepted, outcome, acceptedPlan}
-use Rattle.running.specs.declared.Ran.{Ran}
-use Rattle.running.specs.declared.Ran.the-variants.{Done, Stopped}
-use Rattle.running.specs.Run.{ran}
+use Rattle.plans.specs.Answer.{Outcome, untouched, circularIdp, unordered, outcome, acceptedPlan}
+use Rattle.runs.specs.declared.Ran.the-variants.{Done, Stopped}
+use Rattle.runs.specs.Run.{ran}
 use Rattle.text.specs.Listing.{tableText}
 use Rattle.examples.specs.Tables.{
     tableG, tooManySymbols, copiedRound, crossedCopies, copiedItself, chainOfEight, noAttributes, twoLines, priorities
@@ -38,7 +37,7 @@ textOfG =
     ∷ 114 ∷ 32 ∷ 50 ∷ 32 ∷ 48 ∷ 32 ∷ 49 ∷ 50 ∷ 56 ∷ 32 ∷ 50 ∷ 32 ∷ 49 ∷ 50 ∷ 57 ∷ 10 ∷ []
 
 -- a run of G's plan over its tree of two lines
-unfoldable pub ranG : ℤ → ℤ → ℕ → Rattle.running.specs.Run.Ended
+unfoldable pub ranG : ℤ → ℤ → ℕ → Rattle.runs.specs.Run.Ended
 ranG first second budget = ran tableG (acceptedPlan tableG) twoLines (priorities first second) budget
 
 pub record Claims : Type 0 where

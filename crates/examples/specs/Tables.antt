@@ -3,7 +3,7 @@
 use Prim.Native.Nat.{ℕ}
 use mathlib.Core.List.{List, [], _∷_, _++_}
 use lib.IntN.{ℤ, pos}
-use lib.ListN.{take, replicate}
+use lib.ListN.{replicate}
 
 -- Table G: three symbols, three rules, start 0; the symbols Z, L and the terminal; Z to L, L to terminal L, L to terminal.
 abbrev pub tableG : List ℕ

@@ -14,11 +14,11 @@ use Rattle.grammar.specs.declared.Verdict.the-variants.{Good}
 use Rattle.grammar.specs.Table.{rules, functionsAt, functionAt, ruleAt, functions, functionOf, target}
 use Rattle.grammar.specs.Reading.{readTable}
 use Rattle.grammar.specs.WellFormed.{WellFormed}
-use Rattle.grammar.proofs.Accepted.{accepted, defining-occurs, occurrence-fits}
-use Rattle.grammar.proofs.Places.{functions-rise, formed-length, rules-rise}
-use Rattle.reader.specs.Places.{nextFunction}
-use Rattle.reader.specs.Offsets.{offsetsFor}
-use Rattle.reader.proofs.Accessors.{next-function, offset-of}
+use Rattle.grammar.proofs.AcceptedTable.{accepted, defining-occurs, occurrence-fits}
+use Rattle.grammar.proofs.RuleStarts.{functions-rise, formed-length, rules-rise}
+use Rattle.access.specs.ByPlace.{nextFunction}
+use Rattle.access.specs.Offsets.{offsetsFor}
+use Rattle.access.proofs.Accessors.{next-function, offset-of}
 use Rattle.executing.specs.Located.{HasRule, Located, RuleLocated}
 
 -- ---- what an accepted table says of its functions

@@ -15,29 +15,29 @@ use Rattle.basics.proofs.TestLaws.{below-suc, below-or-not}
 use Rattle.grammar.specs.declared.Verdict.the-variants.{Good}
 use Rattle.grammar.specs.Table.{rules, functionOf, defining}
 use Rattle.grammar.specs.Reading.{readTable}
-use Rattle.grammar.proofs.Accepted.{accepted, defining-occurs}
+use Rattle.grammar.proofs.AcceptedTable.{accepted, defining-occurs}
 use Rattle.sequences.specs.Actions.{Action, compute, visit, leave, decode, isAction}
 use Rattle.sequences.proofs.ActionLaws.{decode-compute, decode-visit, decode-leave, action-belongs, belongs-compute, action-below}
 use Rattle.trees.specs.Tree.{nodes, ruleOf, appliesRule, child, cell}
 use Rattle.trees.specs.Checking.{checkTree}
-use Rattle.trees.proofs.Accepted.{accepted-tree}
+use Rattle.trees.proofs.AcceptedTree.{accepted-tree}
 use Rattle.trees.proofs.Cells.{cell-inside}
-use Rattle.evaluating.specs.Places.{Valued}
+use Rattle.evaluating.specs.FunctionPlaces.{Valued}
 use Rattle.evaluating.proofs.PlaceLaws.{by-number}
 use Rattle.evaluating.proofs.ValuedLaws.{function-valued}
-use Rattle.running.specs.declared.Ran as R
-use Rattle.planning.specs.Sequences.{actionAt}
-use Rattle.running.specs.Sound.{Sound}
-use Rattle.running.specs.Automaton.{Machine, started, functionFor, computed, act, step, after}
-use Rattle.running.specs.Totals.{total}
-use Rattle.running.specs.Run.{ran}
-use Rattle.running.specs.Balance.{Given, times}
-use Rattle.running.specs.Computing.{machineAt}
-use Rattle.running.proofs.Steps.{all-zero, action-of, step-on, times-same}
-use Rattle.running.proofs.Moments.{before-total}
-use Rattle.running.proofs.SequenceCounts.{rule-sound}
-use Rattle.running.proofs.ValuesWritten.{values-length, function-for}
-use Rattle.running.proofs.EverySoundPlan.{
+use Rattle.runs.specs.declared.Ran as R
+use Rattle.plans.specs.Sequences.{actionAt}
+use Rattle.runs.specs.Sound.{Sound}
+use Rattle.runs.specs.Automaton.{Machine, started, functionFor, computed, act, step, after}
+use Rattle.runs.specs.Totals.{total}
+use Rattle.runs.specs.Run.{ran}
+use Rattle.runs.specs.Balance.{Given, times}
+use Rattle.runs.specs.Computing.{machineAt}
+use Rattle.runs.proofs.Steps.{all-zero, action-of, step-on, times-same}
+use Rattle.runs.proofs.Moments.{before-total}
+use Rattle.runs.proofs.SequenceCounts.{rule-sound}
+use Rattle.runs.proofs.ValuesWritten.{values-length, function-for}
+use Rattle.runs.proofs.EverySoundPlan.{
     given, run-done, run-stopped, run-machine, run-busy, top-node, top-goes-on, top-belongs, stack-once, stack-array
 }
 use Rattle.executing.specs.Located.{Located}

@@ -15,11 +15,11 @@ use mir.Val.{toZ, ofZ}
 use Rattle.basics.specs.Lists.{word}
 use Rattle.basics.proofs.TestLaws.{same-or-not}
 use Rattle.trees.specs.Tree.{cell}
-use Rattle.evaluating.specs.Places.{valueFrom}
+use Rattle.evaluating.specs.FunctionPlaces.{valueFrom}
 use Rattle.evaluating.proofs.PlaceLaws.{kept}
-use Rattle.running.specs.Automaton.{Machine}
-use Rattle.running.specs.Balance.{times}
-use Rattle.running.proofs.Steps.{times-same, times-other}
+use Rattle.runs.specs.Automaton.{Machine}
+use Rattle.runs.specs.Balance.{times}
+use Rattle.runs.proofs.Steps.{times-same, times-other}
 use Rattle.executing.specs.State.{stackOf, relative, placesOf, written}
 
 -- machines are equal by their parts

@@ -7,8 +7,8 @@ use lib.IntN.{ℤ}
 use lib.ListN.{take, set}
 use Rattle.basics.specs.Lists.{word}
 use Rattle.trees.specs.Tree.{nodes, ruleOf, cell}
-use Rattle.evaluating.specs.Places.{valueFrom}
-use Rattle.running.specs.Automaton.{Machine}
+use Rattle.evaluating.specs.FunctionPlaces.{valueFrom}
+use Rattle.runs.specs.Automaton.{Machine}
 
 -- the first words of an array as a stack, the last of them on top
 unfoldable pub stackOf : List ℕ → ℕ → List ℕ

@@ -1,5 +1,5 @@
 // The run of a plan over a checked tree: the stack automaton of 000, section 6.3, with its stack and places in arrays and the node on top in locals.
-use running::Ran;
+use runs::Ran;
 ghost use mathlib.Core.Path.{_≡_};
 ghost use Prim.Native.Nat.{_+_, _*_, _≤_, _<_};
 ghost use lib.ListN.{length};
@@ -7,12 +7,12 @@ ghost use Rattle.basics.specs.Lists.{word};
 ghost use Rattle.grammar.specs.declared.Verdict.the-variants.{Good};
 ghost use Rattle.grammar.specs.Table as table;
 ghost use Rattle.grammar.specs.Reading.{readTable};
-ghost use Rattle.reader.specs.Offsets.{offsetsFor};
+ghost use Rattle.access.specs.Offsets.{offsetsFor};
 ghost use Rattle.trees.specs.Tree as trees;
 ghost use Rattle.trees.specs.Checking.{checkTree};
-ghost use Rattle.evaluating.specs.Places.{Valued};
-ghost use Rattle.running.specs.Sound.{Sound};
-ghost use Rattle.running.specs.Run as runs;
+ghost use Rattle.evaluating.specs.FunctionPlaces.{Valued};
+ghost use Rattle.runs.specs.Sound.{Sound};
+ghost use Rattle.runs.specs.Run as runs;
 ghost use Rattle.executing.specs.Located as located;
 ghost use Rattle.executing.specs.State as state;
 
@@ -30,11 +30,11 @@ fn locate_rule(words: &[u16], r: usize, p: usize, starts: &mut [u16; 4096])
     requires { ⌜ length (now starts) ≡ 4096 ⌝ }
     ensures { λ _. ⌜ located.RuleLocated (now (words .entry)) r (now (starts .entry)) (now (starts .exit)) ⌝ }
 {
-    let mut f = reader::first_function(words, p);
-    for k in 0..reader::function_count(words, p) {
-        let o = reader::word(words, f);
+    let mut f = access::first_function(words, p);
+    for k in 0..access::function_count(words, p) {
+        let o = access::word(words, f);
         starts[64 * r + o] = f as u16;
-        f = reader::next_function(words, f);
+        f = access::next_function(words, f);
     }
 }
 
@@ -45,7 +45,7 @@ fn function_starts(words: &[u16], offsets: &[u16; 64], starts: &mut [u16; 4096])
     requires { ⌜ length (now starts) ≡ 4096 ⌝ }
     ensures { λ _. ⌜ located.Located (now (words .entry)) (now (starts .exit)) ⌝ }
 {
-    for r in 0..reader::word(words, 1) {
+    for r in 0..access::word(words, 1) {
         locate_rule(words, r, wide(offsets[r]), starts);
     }
 }

@@ -6,10 +6,10 @@ use Prim.Native.Nat.{ℕ}
 use lib.IntN.{ℤ}
 use Rattle.refusals.specs.declared.Refusal.{Refusal}
 use Rattle.refusals.specs.Numbers.{numberOf, placeOf, secondOf}
-use Rattle.planning.specs.declared.Planned as P
+use Rattle.plans.specs.declared.Planned as P
 use Rattle.planner.specs.Answered as planner
-use Rattle.running.specs.declared.Ran as R
-use Rattle.running.specs.declared.Report.{Report}
+use Rattle.runs.specs.declared.Ran as R
+use Rattle.runs.specs.declared.Report.{Report}
 use Rattle.runner.specs.Answered as runner
 use Rattle.exports.specs.Told.{Told, counted, refused, planTold, runTold, planning, running}
 use Rattle.exports.specs.Answered.{PlanAnswered, RunAnswered}

@@ -5,7 +5,7 @@ use mathlib.Core.List.{List}
 use Prim.Native.Nat.{ℕ}
 use lib.IntN.{ℤ}
 use lib.ListN.{length}
-use Rattle.planning.specs.Answer.{Outcome, outcome, rowsAfter, planAfter}
+use Rattle.plans.specs.Answer.{Outcome, outcome, rowsAfter, planAfter}
 use Rattle.runner.specs.Whole.{came, values}
 use Rattle.exports.specs.Told.{Told, planning, running}
 use Rattle.exports.specs.Answered.{PlanAnswered, RunAnswered}

@@ -5,7 +5,7 @@ use mathlib.Core.Path.{_≡_}
 use mathlib.Core.List.{List}
 use lib.IntN.{ℤ}
 use lib.ListN.{length}
-use Rattle.planning.specs.Answer.{outcome, rowsAfter, planAfter}
+use Rattle.plans.specs.Answer.{outcome, rowsAfter, planAfter}
 use Rattle.runner.specs.Whole.{came, values}
 use Rattle.exports.specs.Told.{planning, running}
 

@@ -7,9 +7,9 @@ use lib.IntN.{ℤ}
 use lib.ListN.{length}
 use Rattle.refusals.specs.declared.Refusal.{Refusal}
 use Rattle.refusals.specs.Numbers.{numberOf, placeOf, secondOf}
-use Rattle.planning.specs.declared.Planned as P
-use Rattle.planning.specs.Answer.{outcome, answerOf}
-use Rattle.running.specs.declared.Ran as R
+use Rattle.plans.specs.declared.Planned as P
+use Rattle.plans.specs.Answer.{outcome, answerOf}
+use Rattle.runs.specs.declared.Ran as R
 use Rattle.runner.specs.Whole as whole
 
 pub record Told : Type 0 where

@@ -1,7 +1,7 @@
 // Planning and running for C callers: a slice is a pointer and its count of elements, an answer is a status and four numbers (specs/Told, specs/Answered).
-use planning::Planned;
+use plans::Planned;
 use refusals::Refusal;
-use running::Ran;
+use runs::Ran;
 
 ghost use mathlib.Core.Path.{_≡_};
 ghost use Rattle.refusals.specs.Numbers.{numberOf, placeOf, secondOf};

@@ -15,34 +15,34 @@ use Rattle.grammar.specs.declared.Verdict.the-variants.{Good}
 use Rattle.grammar.specs.Table.{symbols, rules, lengthAt, ruleAt, rightLength, symbolOf}
 use Rattle.grammar.specs.Reading.{readTable}
 use Rattle.grammar.specs.WellFormed.{WellFormed}
-use Rattle.grammar.proofs.Accepted.{accepted}
+use Rattle.grammar.proofs.AcceptedTable.{accepted}
 use Rattle.relations.specs.Paper.{Path⁺, IDP, IDP⁺}
 use Rattle.relations.specs.Computed.{idsOf}
 use Rattle.relations.proofs.PathLaws.{path-join, path-map}
 use Rattle.relations.proofs.Least.{idp-paths}
 use Rattle.relations.proofs.Occurrences.{occurs-below, stands-symbol, attribute-fits}
-use Rattle.relations.proofs.Exact.{idp-path-exact}
+use Rattle.relations.proofs.ExactIdp.{idp-path-exact}
 use Rattle.relations.proofs.Induced.{idp-path-from, idp-path-to}
 use Rattle.sets.specs.Visits.{setNumber}
 use Rattle.sets.specs.Computed.{setsOf}
 use Rattle.sets.proofs.SetWords.{Numbered, numbered}
-use Rattle.ordered.specs.Paper.{Beside, EDP}
-use Rattle.ordered.proofs.Exact.{edp-path-exact}
-use Rattle.ordered.proofs.WholeGrammar.{idp-edp}
-use Rattle.reader.specs.Places.{occurrencesAt}
-use Rattle.reader.proofs.Same.{symbol-same}
+use Rattle.order.specs.Paper.{Beside, EDP}
+use Rattle.order.proofs.ExactEdp.{edp-path-exact}
+use Rattle.order.proofs.WholeGrammar.{idp-edp}
+use Rattle.access.specs.ByPlace.{occurrencesAt}
+use Rattle.access.proofs.Same.{symbol-same}
 use Rattle.closing.specs.Rows.{leads}
-use Rattle.planning.specs.Buffers.{over, rowsOf}
-use Rattle.planning.specs.Answer.{idpPaths, edpPaths}
+use Rattle.plans.specs.Buffers.{over, rowsOf}
+use Rattle.plans.specs.Answer.{idpPaths, edpPaths}
 use Rattle.inducing.specs.Closes.{Closes}
 use Rattle.inducing.specs.Arcs.{SpreadArc, ArcsFit}
 use Rattle.inducing.specs.Rules.{occurrencesOf, Holds, Frame}
 use Rattle.inducing.proofs.RowLaws.{over-leads, over-below}
-use Rattle.inducing.proofs.RuleLaws.{counts, occurs-among, standing, attribute-among, among-small}
+use Rattle.inducing.proofs.RuleRowLaws.{counts, occurs-among, standing, attribute-among, among-small}
 use Rattle.inducing.proofs.HoldsLaws.{frame-none, frame-then, frame-turn, holds-lower, holds-turn, holds-rows}
 use Rattle.inducing.proofs.InduceLaws.{idp-trans, closes-at}
-use Rattle.extending.specs.Order.{orderOf}
-use Rattle.extending.proofs.OrderLaws.{descent-from, descent-has}
+use Rattle.extending.specs.Descents.{orderOf}
+use Rattle.extending.proofs.DescentLaws.{descent-from, descent-has}
 
 -- the set numbers of a table, and the arcs of rule r that lead down in them
 abbrev pub numbers : List ℕ → List ℕ

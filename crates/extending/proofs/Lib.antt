@@ -1,2 +1,2 @@
-pub mod OrderLaws
+pub mod DescentLaws
 pub mod ExtendLaws

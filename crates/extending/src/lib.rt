@@ -1,5 +1,7 @@
 // EDP of every rule in lent rows: step 4 of 000, section 7. The arcs from higher sets to lower ones are made once for each symbol and
 // then added at each position where it stands.
+use grammar::Offsets;
+use grammar::SET_WORDS;
 ghost use mathlib.Core.Path.{_≡_};
 ghost use Prim.Native.Nat.{_+_, _*_, _≤_, _<_};
 ghost use lib.ListN.{length};
@@ -8,15 +10,15 @@ ghost use Rattle.grammar.specs.declared.Verdict.the-variants as verdict;
 ghost use Rattle.grammar.specs.Limits.{rowWords};
 ghost use Rattle.grammar.specs.Reading.{readTable};
 ghost use Rattle.grammar.specs.Table as table;
-ghost use Rattle.reader.specs.Offsets.{offsetsFor};
+ghost use Rattle.access.specs.Offsets.{offsetsFor};
 ghost use Rattle.relations.specs.Computed.{idsOf};
 ghost use Rattle.sets.specs.Computed.{setsOf};
-ghost use Rattle.planning.specs.Buffers.{over, rowsOf};
-ghost use Rattle.planning.specs.Answer.{idpPaths, edpPaths};
-ghost use Rattle.extending.specs.Order as spec;
+ghost use Rattle.plans.specs.Buffers.{over, rowsOf};
+ghost use Rattle.plans.specs.Answer.{idpPaths, edpPaths};
+ghost use Rattle.extending.specs.Descents as spec;
 
 // Whether arc k = 8a + b leads to a lower set. Past the count of attributes the set words are 0, which is no set.
-fn descends(sets: &[u16; 256], p: usize, count: usize, k: usize) -> bool
+fn descends(sets: &[u16; SET_WORDS], p: usize, count: usize, k: usize) -> bool
     requires { ⌜ (p + 8 ≤ 256) × (k < 64) ⌝ }
     ensures { λ r. ⌜ r ≡ spec.descends (now (sets .entry)) p count k ⌝ }
 {
@@ -28,7 +30,7 @@ fn descends(sets: &[u16; 256], p: usize, count: usize, k: usize) -> bool
 }
 
 // The arcs that lead down between the attributes whose set numbers stand from word p on.
-fn descents(sets: &[u16; 256], p: usize, count: usize) -> u64
+fn descents(sets: &[u16; SET_WORDS], p: usize, count: usize) -> u64
     requires { ⌜ (p + 8 ≤ 256) × (count ≤ 8) ⌝ }
     ensures { λ r. ⌜ r ≡ collect (8 * count) (λ k. spec.descends (now (sets .entry)) p count k) ⌝ }
 {
@@ -42,20 +44,20 @@ fn descents(sets: &[u16; 256], p: usize, count: usize) -> u64
 }
 
 // Those arcs for every symbol.
-fn order(words: &[u16], sets: &[u16; 256]) -> [u64; 32]
+fn order(words: &[u16], sets: &[u16; SET_WORDS]) -> [u64; 32]
     requires { ⌜ readTable (now words) ≡ verdict.Good ⌝ }
     ensures { λ r. ⌜ r ≡ spec.orderOf (now (words .entry)) (now (sets .entry)) ⌝ }
 {
     let mut arcs = [0u64; 32];
-    let symbols = reader::word(words, 0);
+    let symbols = access::word(words, 0);
     for x in 0..symbols {
-        arcs[x] = descents(sets, 8 * x, reader::attributes(words, x));
+        arcs[x] = descents(sets, 8 * x, access::attributes(words, x));
     }
     arcs
 }
 
 // Step 4: the rows, which hold the paths of IDP, get those of EDP.
-pub fn extend(words: &[u16], offsets: &[u16; 64], sets: &[u16; 256], rows: &mut [u64])
+pub fn extend(words: &[u16], offsets: &Offsets, sets: &[u16; SET_WORDS], rows: &mut [u64])
     requires { ⌜ readTable (now words) ≡ verdict.Good ⌝ }
     requires { ⌜ now offsets ≡ offsetsFor (now words) verdict.Good ⌝ }
     requires { ⌜ now sets ≡ setsOf (now words) (idsOf (now words)) ⌝ }
@@ -64,9 +66,9 @@ pub fn extend(words: &[u16], offsets: &[u16; 64], sets: &[u16; 256], rows: &mut 
     ensures { λ _. ⌜ now (rows .exit) ≡ over (rowsOf (now (words .entry)) (edpPaths (now (words .entry)) (idsOf (now (words .entry))) (setsOf (now (words .entry)) (idsOf (now (words .entry)))))) (now (rows .entry)) ⌝ }
 {
     let arcs = order(words, sets);
-    let count = reader::word(words, 1);
+    let count = access::word(words, 1);
     for r in 0..count {
         let p = inducing::rule_at(offsets, r);
-        inducing::spread(words, p, rows, 64 * r, reader::occurrence_set(words, p), &arcs);
+        inducing::spread(words, p, rows, 64 * r, access::occurrence_set(words, p), &arcs);
     }
 }

@@ -1,5 +1,5 @@
 pub mod VerdictLaws
-pub mod Accepted
-pub mod Places
-pub mod Formed
+pub mod AcceptedTable
+pub mod RuleStarts
+pub mod FormedTable
 pub mod OccurrenceLaws

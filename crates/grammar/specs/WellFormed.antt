@@ -1,9 +1,7 @@
 -- Document 01, "The grammar table": what a well-formed table is, as plain facts about its words.
 -- Assumes nothing.
-use Prim.Native.Nat.{ℕ, suc, _+_, _^_, _≤_, _<_}
+use Prim.Native.Nat.{ℕ, _^_, _≤_, _<_}
 use mathlib.Core.Path.{_≡_}
-use mathlib.Core.Logic.{_⊎_}
-use mathlib.Core.Bool.{Bool}
 use mathlib.Core.List.{List}
 use lib.Dec.{T}
 use lib.ListN.{length}
@@ -11,8 +9,8 @@ use Rattle.grammar.specs.Limits.{
     mostSymbols, mostRules, mostAttributes, longestRight, mostFunctions, lastOperation
 }
 use Rattle.grammar.specs.Table.{
-    symbols, rules, start, kind, attributes, mask, nonterminal, argumentWords, functions, ruleAt, rightLength, symbolOf,
-    arguments, target, operation, argument, occurrence, defining
+    symbols, rules, start, kind, attributes, mask, functions, ruleAt, rightLength, symbolOf, arguments, target, operation, argument,
+    occurrence, defining
 }
 
 -- "kind (0 nonterminal, 1 terminal), attribute count (0..8), mask (below 2 to that count)"; "terminals have synthesized attributes only"

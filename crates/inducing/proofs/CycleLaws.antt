@@ -1,23 +1,23 @@
 -- The search for a cycle: what it found, or that nothing is there, is what the definition names; and where the rows hold the paths of a
 -- grammar, that is the cycle that planning answers with. Assumes nothing.
-use Prim.Native.Nat.{ℕ, zero, suc, _+_, _*_, _≤_, _<_}
-use mathlib.Core.Path.{_≡_, refl, sym, _∙_, ap, ap₂, subst, subst⁻¹}
-use mathlib.Core.Logic.{_⊎_, ⊎-elim, _↔_}
-use mathlib.Core.Bool.{Bool, true, false, cond, not}
+use Prim.Native.Nat.{ℕ, _+_, _*_, _≤_, _<_}
+use mathlib.Core.Path.{_≡_, refl, sym, _∙_, ap, subst, subst⁻¹}
+use mathlib.Core.Logic.{⊎-elim}
+use mathlib.Core.Bool.{Bool, true, false, cond}
 use mathlib.Core.List.{List}
 use native.Mathlib.Omega.{arith}
-use lib.Dec.{T, ltb, T-not, not-T, lt→ltb}
-use lib.ListN.{length, getD}
+use lib.Dec.{T, T-not, not-T, lt→ltb}
+use lib.ListN.{getD}
 use Rattle.bits.specs.Bit.{hasb}
-use Rattle.basics.specs.Tests.{_and_, some, least}
+use Rattle.basics.specs.Tests.{some, least}
 use Rattle.basics.proofs.TestLaws.{
-    Least, least-is, least-one, some-at, some-find, chosen, passed-over, true-T, false-T, T-true, T-false, below-suc, below-or-not, and-intro, and-left,
-    and-right, same-test, tested
+    least-is, least-one, some-at, some-find, chosen, passed-over, true-T, false-T, T-false, below-suc, below-or-not, and-intro, and-right,
+    same-test
 }
 use Rattle.grammar.specs.Table.{rules, ruleCounts}
-use Rattle.ordered.specs.Computed.{hasCycle, circular, cycleRule, cycleOccurrence}
+use Rattle.order.specs.Computed.{hasCycle, circular, cycleRule, cycleOccurrence}
 use Rattle.closing.specs.Rows.{leads}
-use Rattle.planning.specs.Buffers.{over, rowsOf}
+use Rattle.plans.specs.Buffers.{over, rowsOf}
 use Rattle.inducing.specs.declared.Cycle.{Cycle}
 use Rattle.inducing.specs.declared.Cycle.the-variants.{At, Nothing}
 use Rattle.inducing.specs.Cycles.{lies, cyclic, cycleIn}

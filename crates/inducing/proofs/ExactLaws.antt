@@ -1,46 +1,44 @@
 -- Where a whole round leaves the state as it was, the rows hold the paths of IDP and the state is IDS: the rows are closed, have DP and
 -- every arc of the state at each position, and hand on nothing new. So nothing is missing, and nothing was ever too much. Assumes nothing.
-use Prim.Native.Nat.{ℕ, zero, suc, _+_, _*_, _-_, _/_, _%_, _^_, _≤_, _<_}
-use mathlib.Core.Path.{_≡_, refl, sym, _∙_, ap, subst, subst⁻¹}
-use mathlib.Core.Logic.{_⊎_, inl, inr, ⊎-elim}
-use mathlib.Core.Bool.{Bool, true, false, not}
+use Prim.Native.Nat.{ℕ, _+_, _*_, _-_, _/_, _%_, _^_, _≤_, _<_}
+use mathlib.Core.Path.{_≡_, sym, _∙_, ap, subst, subst⁻¹}
+use mathlib.Core.Logic.{⊎-elim}
+use mathlib.Core.Bool.{Bool, true, false}
 use mathlib.Core.List.{List}
 use native.Mathlib.Omega.{arith}
 use lib.Dec.{T, T-not, eqb, eqb→eq, lt→ltb}
-use lib.ListN.{length, getD, take, replicate, length-take, length-replicate, getD-replicate, List·getD-append, List·getD-eq-default}
+use lib.ListN.{length, take, replicate, length-take, length-replicate, getD-replicate, List·getD-append, List·getD-eq-default}
 use lib.Seq.{ext-getD, getD-take}
 use Rattle.bits.specs.Bit.{hasb}
-use Rattle.bits.proofs.MemberLaws.{none-left, hasb-ext, hasb-below}
-use Rattle.basics.specs.Tests.{_and_, _or_, _implies_, all, count}
+use Rattle.bits.proofs.MemberLaws.{none-left, hasb-ext}
+use Rattle.basics.specs.Tests.{_implies_, all, count}
 use Rattle.basics.specs.Lists.{word, padded}
 use Rattle.basics.proofs.TestLaws.{
-    or-cases, and-intro, and-left, and-right, true-T, false-T, below-or-not, same-test, tested, implies-use, implies-fails, all-at, all-intro, all-fails, count-le,
-    count-more, eq-T
+    or-cases, and-intro, and-left, and-right, false-T, below-or-not, same-test, tested, implies-use, implies-fails, all-at, all-intro,
+    all-fails, count-le, count-more, eq-T
 }
 use Rattle.basics.proofs.ListLaws.{length-padded, getD-past}
-use Rattle.grammar.specs.Limits.{rowWords}
 use Rattle.grammar.specs.declared.Verdict.the-variants.{Good}
-use Rattle.grammar.specs.Table.{symbols, rules, attributes, rightLength, symbolOf, occurrence, occurrenceOf, position, attribute}
+use Rattle.grammar.specs.Table.{symbols, rules, attributes, symbolOf, position, attribute}
 use Rattle.grammar.specs.Reading.{readTable}
 use Rattle.grammar.specs.WellFormed.{WellFormed}
-use Rattle.grammar.proofs.Accepted.{accepted}
-use Rattle.relations.specs.Paper.{Path⁺, DP, Stands, IDP, IDS, IDP⁺}
-use Rattle.relations.specs.Computed.{dp, arcIn, inducedArc, idp, idpPath, idsOf}
-use Rattle.relations.proofs.PathLaws.{path-map, path-closed}
+use Rattle.grammar.proofs.AcceptedTable.{accepted}
+use Rattle.relations.specs.Paper.{IDS, IDP⁺}
+use Rattle.relations.specs.Computed.{arcIn, inducedArc, idp, idsOf}
 use Rattle.relations.proofs.Least.{ids-occurs}
 use Rattle.relations.proofs.Occurrences.{counts-below, occurs-below, occurs-inside, dp-sound, attribute-fits}
 use Rattle.relations.proofs.Rounds.{State, ids-state}
 use Rattle.relations.proofs.Induced.{ids-symbol}
-use Rattle.relations.proofs.Exact.{Sound, Closed, paths-complete, ids-unique, idp-path-exact}
+use Rattle.relations.proofs.ExactIdp.{Sound, Closed, paths-complete, ids-unique, idp-path-exact}
 use Rattle.closing.specs.Rows.{leads, arcsAt}
 use Rattle.closing.proofs.GatherLaws.{arc-at}
-use Rattle.planning.specs.Buffers.{over, rowsOf}
-use Rattle.planning.specs.Answer.{idpPaths}
+use Rattle.plans.specs.Buffers.{over, rowsOf}
+use Rattle.plans.specs.Answer.{idpPaths}
 use Rattle.inducing.specs.Rules.{Holds, Frame, Cleared, Induced, Arcs, Rounded, Standing, Turned}
-use Rattle.inducing.proofs.SetLaws.{small-set}
-use Rattle.inducing.proofs.RuleLaws.{counts}
+use Rattle.inducing.proofs.ArcSetLaws.{small-set}
+use Rattle.inducing.proofs.RuleRowLaws.{counts}
 use Rattle.inducing.proofs.HoldsLaws.{frame-none, frame-then, path-leads, holds-rows}
-use Rattle.inducing.proofs.StateLaws.{agreed}
+use Rattle.inducing.proofs.IdsStateLaws.{agreed}
 
 -- a padded list has the words of the list, and zeros
 pub padded-word : (n : ℕ) (xs : List ℕ) (x : ℕ) → word (padded n xs) x ≡ word xs x

@@ -1,9 +1,9 @@
 -- The rows of all rules, where arcs are added to those of one: the other rules' rows and the words past them stay.
 -- Assumes nothing.
-use Prim.Native.Nat.{ℕ, zero, suc, _+_, _*_, _/_, _%_, _^_, _≤_, _<_}
-use mathlib.Core.Path.{_≡_, refl, sym, _∙_, ap, subst, subst⁻¹}
+use Prim.Native.Nat.{ℕ, _+_, _*_, _/_, _%_, _^_, _≤_, _<_}
+use mathlib.Core.Path.{_≡_, refl, _∙_, ap, subst, subst⁻¹}
 use mathlib.Core.Logic.{_⊎_, inl, inr, ⊎-elim}
-use mathlib.Core.Bool.{Bool, true, false}
+use mathlib.Core.Bool.{Bool}
 use mathlib.Core.List.{List}
 use native.Mathlib.Omega.{arith}
 use lib.Dec.{T}
@@ -17,11 +17,11 @@ use Rattle.relations.proofs.PathLaws.{path-map, path-closed}
 use Rattle.closing.specs.Rows.{leads}
 use Rattle.closing.proofs.ClosedLaws.{Kept}
 use Rattle.inducing.specs.Closes.{Closes}
-use Rattle.planning.specs.Buffers.{over, rowsOf}
+use Rattle.plans.specs.Buffers.{over, rowsOf}
 use Rattle.inducing.specs.Rules.{occurrencesOf, Holds, Frame}
-use Rattle.inducing.proofs.SetLaws.{small-set}
+use Rattle.inducing.proofs.ArcSetLaws.{small-set}
 use Rattle.inducing.proofs.RowLaws.{rows-are}
-use Rattle.inducing.proofs.RuleLaws.{among-small}
+use Rattle.inducing.proofs.RuleRowLaws.{among-small}
 
 -- rows with the same words lead to the same places
 same-leads : (before after : List ℕ) (base o x : ℕ) → word after (base + o) ≡ word before (base + o) → leads after base o x ≡ leads before base o x

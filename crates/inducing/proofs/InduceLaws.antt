@@ -1,39 +1,35 @@
 -- DP is filled in rule by rule, and a round goes through the rules: every path stays one of IDP and every arc one of IDS.
 -- Assumes nothing.
-use Prim.Native.Nat.{ℕ, zero, suc, _+_, _*_, _/_, _%_, _^_, _≤_, _<_}
+use Prim.Native.Nat.{ℕ, _+_, _*_, _/_, _%_, _≤_, _<_}
 use mathlib.Core.Path.{_≡_, refl, sym, _∙_, ap, subst, subst⁻¹}
-use mathlib.Core.Logic.{_⊎_, inl, inr, ⊎-elim}
-use mathlib.Core.Bool.{Bool, true, false}
+use mathlib.Core.Logic.{inl, inr, ⊎-elim}
+use mathlib.Core.Bool.{Bool}
 use mathlib.Core.List.{List}
 use native.Mathlib.Omega.{arith}
-use lib.Dec.{T, T-not, ltb→lt, lt→ltb}
-use lib.ListN.{length, getD}
+use lib.Dec.{T, T-not, ltb→lt}
+use lib.ListN.{length}
 use Rattle.bits.specs.Bit.{hasb}
 use Rattle.bits.proofs.MemberLaws.{none-left, hasb-below}
-use Rattle.basics.specs.Tests.{_and_}
 use Rattle.basics.specs.Lists.{word}
-use Rattle.basics.proofs.TestLaws.{below-suc, and-left, and-right, and-intro, same-or-not}
+use Rattle.basics.proofs.TestLaws.{below-suc, and-left, and-right, and-intro}
 use Rattle.grammar.specs.declared.Verdict.the-variants.{Good}
 use Rattle.grammar.specs.Table.{rules, attributes, lengthAt, functionsAt, ruleAt, rightLength, symbolOf, position, attribute, occurrence}
 use Rattle.grammar.specs.Reading.{readTable}
 use Rattle.grammar.specs.WellFormed.{WellFormed}
-use Rattle.grammar.proofs.Accepted.{accepted}
-use Rattle.relations.specs.Paper.{Path⁺, DP, Stands, IDP, IDS, IDP⁺}
+use Rattle.grammar.proofs.AcceptedTable.{accepted}
+use Rattle.relations.specs.Paper.{DP, IDP, IDS, IDP⁺}
 use Rattle.relations.proofs.PathLaws.{path-join}
 use Rattle.relations.proofs.Least.{idp-paths, paths-idp, ids-occurs}
 use Rattle.relations.proofs.Occurrences.{occurs-attribute}
-use Rattle.reader.specs.Places.{symbolFrom, occurrencesAt}
-use Rattle.reader.proofs.Same.{symbol-same}
+use Rattle.access.specs.ByPlace.{occurrencesAt}
+use Rattle.access.proofs.Same.{symbol-same}
 use Rattle.closing.specs.Rows.{leads, arcsAt}
 use Rattle.closing.proofs.ClosedLaws.{Kept}
 use Rattle.closing.proofs.GatherLaws.{arc-at, arcs-lt}
-use Rattle.inducing.specs.Closes.{Closes, ArcAt}
-use Rattle.inducing.specs.Arcs.{RuleArc, SpreadArc, Ruled, ArcsFit, Gathered}
-use Rattle.inducing.specs.Rules.{occurrencesOf, Holds, Frame, Induced, Arcs, Rounded, Standing, Turned}
-use Rattle.inducing.proofs.SpreadLaws.{arc-leads}
-use Rattle.inducing.proofs.RuleLaws.{
-    among-small, among-occurs, counts, ruled, dp-arc, arc-dp, dp-small, standing, attribute-among
-}
+use Rattle.inducing.specs.Closes.{Closes}
+use Rattle.inducing.specs.Arcs.{RuleArc, SpreadArc, ArcsFit, Gathered}
+use Rattle.inducing.specs.Rules.{occurrencesOf, Holds, Frame, Induced, Arcs, Standing, Turned}
+use Rattle.inducing.proofs.RuleRowLaws.{among-small, among-occurs, dp-arc, arc-dp, dp-small, standing, attribute-among}
 use Rattle.inducing.proofs.HoldsLaws.{rows-other, rows-keep, frame-none, frame-then, frame-turn, holds-lower, holds-turn}
 
 pub idp-trans : (g : List ℕ) (r a b c : ℕ) → IDP⁺ g r a b → IDP⁺ g r b c → IDP⁺ g r a c

@@ -1,11 +1,11 @@
-pub mod SetLaws
+pub mod ArcSetLaws
 pub mod RowLaws
 pub mod CycleLaws
 pub mod ClosesLaws
 pub mod FillLaws
 pub mod SpreadLaws
-pub mod RuleLaws
+pub mod RuleRowLaws
 pub mod HoldsLaws
 pub mod InduceLaws
-pub mod StateLaws
+pub mod IdsStateLaws
 pub mod ExactLaws

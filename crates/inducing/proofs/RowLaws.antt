@@ -16,8 +16,8 @@ use Rattle.basics.specs.Lists.{word}
 use Rattle.basics.proofs.TestLaws.{below-or-not}
 use Rattle.grammar.specs.Table.{rules}
 use Rattle.closing.specs.Rows.{leads}
-use Rattle.planning.specs.Buffers.{over, rowsOf}
-use Rattle.planning.proofs.RowWords.{over-length, over-row, over-rest}
+use Rattle.plans.specs.Buffers.{over, rowsOf}
+use Rattle.plans.proofs.RowWords.{over-length, over-row, over-rest}
 
 module _ (g : List ℕ) (paths : ℕ → ℕ → ℕ → Bool) where
   module _ (lent : List ℕ) where

@@ -1,6 +1,6 @@
 -- A rule's positions one after the other: the arcs of each symbol are added there, and the arcs there are put to those of the symbol.
 -- Assumes nothing.
-use Prim.Native.Nat.{ℕ, _+_, _*_, _-_, _/_, _%_, _^_, _≤_, _<_}
+use Prim.Native.Nat.{ℕ, _+_, _*_, _/_, _%_, _^_, _≤_, _<_}
 use mathlib.Core.Path.{_≡_, refl, sym, _∙_, ap, subst, subst⁻¹}
 use mathlib.Core.Logic.{_⊎_, inl, inr, ⊎-elim}
 use mathlib.Core.Bool.{Bool}
@@ -14,7 +14,7 @@ use Rattle.bits.proofs.MemberLaws.{hasb-below, union-cases, union-left, union-r
 use Rattle.basics.specs.Lists.{word}
 use Rattle.basics.proofs.TestLaws.{below-suc, and-right, same-or-not}
 use Rattle.grammar.specs.Table.{attributes, lengthAt}
-use Rattle.reader.specs.Places.{symbolFrom}
+use Rattle.access.specs.ByPlace.{symbolFrom}
 use Rattle.closing.specs.Rows.{leads, arcsAt}
 use Rattle.closing.proofs.ClosedLaws.{Kept}
 use Rattle.closing.proofs.GatherLaws.{arc-at, arcs-lt}

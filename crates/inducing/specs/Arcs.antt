@@ -1,7 +1,7 @@
 -- The arcs that the steps add, by the words that they are read from: those of a function, of a rule's functions, and of the symbols at a
 -- rule's positions. Each takes how many of them count, so that a loop's invariant is the definition at its counter.
 -- For proofs of the code: no demand rests on it. Assumes nothing.
-use Prim.Native.Nat.{ℕ, _+_, _*_, _/_, _%_, _≤_, _<_}
+use Prim.Native.Nat.{ℕ, _+_, _≤_, _<_}
 use mathlib.Core.Path.{_≡_}
 use mathlib.Core.Logic.{_⊎_}
 use mathlib.Core.Bool.{cond}
@@ -11,7 +11,7 @@ use lib.ListN.{length}
 use Rattle.bits.specs.Bit.{hasb}
 use Rattle.basics.specs.Lists.{word}
 use Rattle.grammar.specs.Table.{attributes, argumentWords, isConstant, lengthAt, functionAt, functionsAt}
-use Rattle.reader.specs.Places.{symbolFrom, Shaped}
+use Rattle.access.specs.ByPlace.{symbolFrom, Shaped}
 use Rattle.closing.specs.Rows.{arcsAt}
 use Rattle.inducing.specs.Closes.{ArcAt, Ends}
 

@@ -9,7 +9,7 @@ use Rattle.bits.specs.Bit.{hasb}
 use Rattle.basics.specs.Lists.{word}
 use Rattle.grammar.specs.Table.{rules, attributes, ruleAt, rightLength, symbolOf}
 use Rattle.relations.specs.Paper.{DP, IDS, IDP⁺}
-use Rattle.reader.specs.Places.{occurrencesAt}
+use Rattle.access.specs.ByPlace.{occurrencesAt}
 use Rattle.closing.specs.Rows.{leads, arcsAt}
 use Rattle.closing.proofs.ClosedLaws.{Kept}
 

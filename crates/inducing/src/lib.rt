@@ -1,5 +1,7 @@
 // The relations of a grammar's rules in lent rows, 64 words a rule: row o of rule r is word 64r + o, and its bit b says that a path
 // leads from o to b. These are steps 1, 2 and 4 of 000, section 7.
+use grammar::Offsets;
+use grammar::ROWS;
 ghost use mathlib.Core.Path.{_≡_};
 ghost use Prim.Native.Nat.{_+_, _*_, _≤_, _<_};
 ghost use lib.ListN.{length, getD};
@@ -14,12 +16,12 @@ ghost use Rattle.basics.specs.Lists.{word};
 ghost use Rattle.grammar.specs.declared.Verdict.the-variants as verdict;
 ghost use Rattle.grammar.specs.Reading.{readTable};
 ghost use Rattle.grammar.specs.Table as table;
-ghost use Rattle.reader.specs.Offsets.{offsetsFor};
+ghost use Rattle.access.specs.Offsets.{offsetsFor};
 ghost use Rattle.basics.specs.Lists.{padded};
 ghost use Rattle.grammar.specs.Limits.{rowWords};
 ghost use Rattle.relations.specs.Computed.{idsOf};
-ghost use Rattle.planning.specs.Buffers.{over, rowsOf};
-ghost use Rattle.planning.specs.Answer.{idpPaths};
+ghost use Rattle.plans.specs.Buffers.{over, rowsOf};
+ghost use Rattle.plans.specs.Answer.{idpPaths};
 ghost use Rattle.inducing.specs.Rules as rules;
 ghost use Rattle.inducing.specs.Arcs as said;
 
@@ -86,11 +88,11 @@ fn argument_count(words: &[u16], f: usize) -> usize
     ensures { λ r. ⌜ r ≡ said.argumentsAt (now (words .entry)) f ⌝ }
     ensures { λ r. ⌜ r ≤ 4 ⌝ }
 {
-    let op = reader::word(words, f + 1);
+    let op = access::word(words, f + 1);
     if op == 0 {
         return 0;
     }
-    reader::argument_words(op)
+    access::argument_words(op)
 }
 
 // The arcs of the function at word f: from each of its arguments to its target.
@@ -100,11 +102,11 @@ fn fill_function(words: &[u16], f: usize, rows: &mut [u64], base: usize, among: 
     requires { ⌜ Kept (now rows) base among ⌝ }
     ensures { λ _. ⌜ Closes (now (rows .entry)) base among (said.FunctionArc (now (words .entry)) f (said.argumentsAt (now (words .entry)) f)) (now (rows .exit)) ⌝ }
 {
-    let target = reader::word(words, f);
+    let target = access::word(words, f);
     let count = argument_count(words, f);
     let mut from = 0;
     for j in 0..count {
-        from = bits::with(from, reader::word(words, f + 2 + j));
+        from = bits::with(from, access::word(words, f + 2 + j));
     }
     join(rows, base, among, from, bits::single(target));
 }
@@ -116,11 +118,11 @@ fn fill_rule(words: &[u16], p: usize, rows: &mut [u64], base: usize, among: u64)
     requires { ⌜ Kept (now rows) base among ⌝ }
     ensures { λ _. ⌜ Closes (now (rows .entry)) base among (said.RuleArc (now (words .entry)) p (table.functionsAt (now (words .entry)) p)) (now (rows .exit)) ⌝ }
 {
-    let count = reader::function_count(words, p);
-    let mut f = reader::first_function(words, p);
+    let count = access::function_count(words, p);
+    let mut f = access::first_function(words, p);
     for k in 0..count {
         fill_function(words, f, rows, base, among);
-        f = reader::next_function(words, f);
+        f = access::next_function(words, f);
     }
 }
 
@@ -132,7 +134,7 @@ fn place(p: u16) -> usize
 }
 
 // The word at which rule r starts.
-pub fn rule_at(offsets: &[u16; 64], r: usize) -> usize
+pub fn rule_at(offsets: &Offsets, r: usize) -> usize
     requires { ⌜ r < 64 ⌝ }
     ensures { λ p. ⌜ p ≡ getD (now (offsets .entry)) r 0 ⌝ }
 {
@@ -140,17 +142,17 @@ pub fn rule_at(offsets: &[u16; 64], r: usize) -> usize
 }
 
 // Step 1: DP of every rule, closed.
-fn fill(words: &[u16], offsets: &[u16; 64], rows: &mut [u64])
+fn fill(words: &[u16], offsets: &Offsets, rows: &mut [u64])
     requires { ⌜ readTable (now words) ≡ verdict.Good ⌝ }
     requires { ⌜ now offsets ≡ offsetsFor (now words) verdict.Good ⌝ }
     requires { ⌜ 64 * table.rules (now words) ≤ length (now rows) ⌝ }
     requires { ⌜ ((j : ℕ) → j < 64 * table.rules (now words) → word (now rows) j ≡ 0) ⌝ }
     ensures { λ _. ⌜ rules.Induced (now (words .entry)) (now (rows .exit)) × rules.Frame (now (words .entry)) (now (rows .entry)) (now (rows .exit)) ⌝ }
 {
-    let count = reader::word(words, 1);
+    let count = access::word(words, 1);
     for r in 0..count {
         let p = rule_at(offsets, r);
-        fill_rule(words, p, rows, 64 * r, reader::occurrence_set(words, p));
+        fill_rule(words, p, rows, 64 * r, access::occurrence_set(words, p));
     }
 }
 
@@ -162,9 +164,9 @@ pub fn spread(words: &[u16], p: usize, rows: &mut [u64], base: usize, among: u64
     requires { ⌜ Kept (now rows) base among ⌝ }
     ensures { λ _. ⌜ Closes (now (rows .entry)) base among (said.SpreadArc (now (words .entry)) p (now (arcs .entry)) (table.lengthAt (now (words .entry)) p + 1)) (now (rows .exit)) ⌝ }
 {
-    let n = reader::right_length(words, p);
+    let n = access::right_length(words, p);
     for i in 0..n + 1 {
-        induce_at(rows, base, among, i, arcs[reader::symbol_of(words, p, i)]);
+        induce_at(rows, base, among, i, arcs[access::symbol_of(words, p, i)]);
     }
 }
 
@@ -174,25 +176,25 @@ fn gather(words: &[u16], p: usize, rows: &[u64], base: usize, ids: &mut [u64; 32
     requires { ⌜ said.Ruled (now words) p ⌝ }
     ensures { λ _. ⌜ said.Gathered (now (words .entry)) p (now (rows .entry)) base (table.lengthAt (now (words .entry)) p + 1) (now (ids .entry)) (now (ids .exit)) ⌝ }
 {
-    let n = reader::right_length(words, p);
+    let n = access::right_length(words, p);
     for i in 0..n + 1 {
-        let x = reader::symbol_of(words, p, i);
-        let arcs = closing::arcs_at(rows, base, i, reader::attributes(words, x));
+        let x = access::symbol_of(words, p, i);
+        let arcs = closing::arcs_at(rows, base, i, access::attributes(words, x));
         ids[x] = bits::union(ids[x], arcs);
     }
 }
 
 // One round: every rule gets the arcs that its symbols have, and hands on those that its paths induce.
-fn round(words: &[u16], offsets: &[u16; 64], rows: &mut [u64], ids: &mut [u64; 32])
+fn round(words: &[u16], offsets: &Offsets, rows: &mut [u64], ids: &mut [u64; 32])
     requires { ⌜ readTable (now words) ≡ verdict.Good ⌝ }
     requires { ⌜ now offsets ≡ offsetsFor (now words) verdict.Good ⌝ }
     requires { ⌜ rules.Standing (now words) (now rows) (now rows) (now ids) ⌝ }
     ensures { λ _. ⌜ rules.Turned (now (words .entry)) (now (rows .entry)) (now (ids .entry)) (table.rules (now (words .entry))) (now (rows .exit)) (now (ids .exit)) ⌝ }
 {
-    let count = reader::word(words, 1);
+    let count = access::word(words, 1);
     for r in 0..count {
         let p = rule_at(offsets, r);
-        spread(words, p, rows, 64 * r, reader::occurrence_set(words, p), ids);
+        spread(words, p, rows, 64 * r, access::occurrence_set(words, p), ids);
         gather(words, p, rows, 64 * r, ids);
     }
 }
@@ -220,14 +222,14 @@ fn clear(rows: &mut [u64], count: usize)
 }
 
 // Steps 1 and 2: the rows get the paths of IDP, and the answer is IDS of every symbol. A round that adds no arc is the last.
-pub fn induce(words: &[u16], offsets: &[u16; 64], rows: &mut [u64]) -> [u64; 32]
+pub fn induce(words: &[u16], offsets: &Offsets, rows: &mut [u64]) -> [u64; 32]
     requires { ⌜ readTable (now words) ≡ verdict.Good ⌝ }
     requires { ⌜ now offsets ≡ offsetsFor (now words) verdict.Good ⌝ }
     requires { ⌜ rowWords (table.rules (now words)) ≤ length (now rows) ⌝ }
     ensures { λ r. ⌜ r ≡ padded 32 (idsOf (now (words .entry))) ⌝ }
     ensures { λ _. ⌜ now (rows .exit) ≡ over (rowsOf (now (words .entry)) (idpPaths (now (words .entry)) (idsOf (now (words .entry))))) (now (rows .entry)) ⌝ }
 {
-    clear(rows, 64 * reader::word(words, 1));
+    clear(rows, ROWS * access::word(words, 1));
     fill(words, offsets, rows);
     let mut ids = [0u64; 32];
     loop {

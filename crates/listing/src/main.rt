@@ -17,7 +17,7 @@ fn main() {
             return;
         }
     }
-    let shown = writing::list(&input[..n], &mut out);
+    let shown = lister::list(&input[..n], &mut out);
     if !io::write_all(STDOUT_FILENO, &out[..shown]) {
         io::write_all(STDERR_FILENO, b"listing: standard output cannot be written\n");
     }

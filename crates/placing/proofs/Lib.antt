@@ -2,4 +2,4 @@ pub mod TakenLaws
 pub mod SymbolLaws
 pub mod StepLaws
 pub mod SetsLaws
-pub mod SameSets
+pub mod SameSymbolSets

@@ -1,12 +1,12 @@
 -- The set words of all symbols: a terminal is passed over, a nonterminal gets its nine sets, and what comes out is the plan's set words.
 -- Assumes nothing.
-use Prim.Native.Nat.{ℕ, zero, suc, _+_, _*_, _-_, _/_, _%_, _^_, _≤_, _<_}
+use Prim.Native.Nat.{ℕ, zero, suc, _+_, _*_, _/_, _%_, _≤_, _<_}
 use mathlib.Core.Path.{_≡_, refl, sym, _∙_, ap, subst, subst⁻¹}
 use mathlib.Core.Logic.{_⊎_, inl, inr, ⊎-elim}
-use mathlib.Core.Bool.{Bool, true, false, cond, not}
+use mathlib.Core.Bool.{Bool, true, false, cond}
 use mathlib.Core.List.{List}
 use native.Mathlib.Omega.{arith}
-use lib.Dec.{T, ltb, eqb, lt→ltb, ltb→lt, not-T, T-not}
+use lib.Dec.{ltb, lt→ltb, not-T, T-not}
 use lib.Pow.{pow-pos, pow-mono}
 use borrow.Author.Tests.{le-ltb}
 use lib.ListN.{length, replicate, length-replicate, getD-replicate}
@@ -14,18 +14,18 @@ use lib.Seq.{ext-getD}
 use Rattle.bits.specs.Bit.{below}
 use Rattle.basics.specs.Tests.{_and_}
 use Rattle.basics.specs.Lists.{word}
-use Rattle.basics.proofs.TestLaws.{and-intro, and-right, chosen, passed-over, tested, true-T, false-T, T-true, T-false, below-or-not, below-suc}
-use Rattle.grammar.specs.Limits.{mostSymbols, mostAttributes}
+use Rattle.basics.proofs.TestLaws.{and-intro, and-right, chosen, passed-over, tested, true-T, false-T, below-or-not}
+use Rattle.grammar.specs.Limits.{mostAttributes}
 use Rattle.grammar.specs.declared.Verdict.the-variants.{Good}
 use Rattle.grammar.specs.Table.{symbols, nonterminal, attributes, mask, symbolCounts}
 use Rattle.grammar.specs.Reading.{readTable}
-use Rattle.grammar.specs.WellFormed.{SymbolFormed, WellFormed}
-use Rattle.grammar.proofs.Accepted.{accepted}
+use Rattle.grammar.specs.WellFormed.{WellFormed}
+use Rattle.grammar.proofs.AcceptedTable.{accepted}
 use Rattle.sets.specs.Computed.{placedUpTo, setsOfSymbol, setsOf, mostSets}
 use Rattle.sets.specs.Visits.{setNumber}
 use Rattle.sets.proofs.SetWords.{length-sets, word-of-symbol, number-of-other}
-use Rattle.placing.specs.Masks.{numberedTo, leftAfter, takenNext, placedNonterminal}
-use Rattle.placing.proofs.SymbolLaws.{PlacedTo, placing-start, placing-turn, length-numbered}
+use Rattle.placing.specs.SymbolSets.{numberedTo, leftAfter, takenNext, placedNonterminal}
+use Rattle.placing.proofs.SymbolLaws.{PlacedTo, placing-start, placing-turn}
 
 -- nine times over, the words and what is left are as the definition has them
 pub all-placed : (g ids : List ℕ) (x : ℕ) (sets : List ℕ) (at : ℕ) → PlacedTo g ids x sets at 0 sets (below (attributes g x)) → (k : ℕ)

@@ -1,17 +1,16 @@
 -- The loop over the nine sets of a symbol: after k of them the words and what is left are those of the definition.
 -- Assumes nothing.
-use Prim.Native.Nat.{ℕ, zero, suc, _+_, _%_, _^_, _≤_, _<_}
-use mathlib.Core.Path.{_≡_, refl, sym, _∙_, ap, ap₂, subst, subst⁻¹}
-use mathlib.Core.Bool.{Bool, true, false, cond}
+use Prim.Native.Nat.{ℕ, suc, _+_, _%_, _≤_, _<_}
+use mathlib.Core.Path.{_≡_, refl, sym, _∙_, ap, ap₂, subst⁻¹}
+use mathlib.Core.Bool.{Bool, cond}
 use mathlib.Core.List.{List}
 use native.Mathlib.Omega.{arith}
 use native.Mathlib.Numerals.{add-one}
-use lib.Dec.{eqb}
 use lib.ListN.{length}
 use borrow.Author.Tests.{eq-eqb, ne-eqb}
 use Rattle.bits.specs.Bit.{minus}
 use Rattle.bits.proofs.SetLaws.{minus-lt}
-use Rattle.placing.specs.Masks.{classOf, takenFrom, numbered, leftAfter, takenNext, numberedTo}
+use Rattle.placing.specs.SymbolSets.{classOf, takenFrom, numbered, leftAfter, takenNext, numberedTo}
 use Rattle.placing.proofs.SymbolLaws.{taken-lt, length-numbered}
 
 -- the class by the code's test

@@ -1,15 +1,15 @@
 -- One symbol, set after set: after k sets the words hold the set numbers with sets 1 to k placed, and the unplaced attributes are the
 -- bits that are left. What a set takes by its bits is what the definition takes. Assumes nothing.
-use Prim.Native.Nat.{ℕ, zero, suc, _+_, _*_, _-_, _/_, _%_, _^_, _≤_, _<_}
+use Prim.Native.Nat.{ℕ, suc, _+_, _*_, _-_, _%_, _^_, _≤_, _<_}
 use mathlib.Core.Path.{_≡_, refl, sym, _∙_, ap, subst, subst⁻¹}
-use mathlib.Core.Logic.{_⊎_, inl, inr, ⊎-elim}
-use mathlib.Core.Bool.{Bool, true, false, cond, not}
+use mathlib.Core.Logic.{_⊎_, ⊎-elim}
+use mathlib.Core.Bool.{Bool, cond, not}
 use mathlib.Core.List.{List}
 use native.Mathlib.Omega.{arith}
 use lib.Dec.{T, ltb, leb, eqb, ltb→lt, lt→ltb, leb→le, le→leb, eqb→eq, T-not, not-T}
 use lib.ListN.{length, List·getD-eq-default}
 use lib.Pow.{pow-pos, pow-mono}
-use Rattle.bits.specs.Bit.{bit, hasb, collect, common, minus, field, below}
+use Rattle.bits.specs.Bit.{hasb, common, minus, field, below}
 use Rattle.bits.proofs.BitLaws.{bit-has, has-bit, bit-below}
 use Rattle.bits.proofs.SetLaws.{minus-lt, common-lt}
 use Rattle.bits.proofs.CollectLaws.{collect-lt}
@@ -18,18 +18,18 @@ use Rattle.bits.proofs.MemberLaws.{hasb-collect, hasb-below, hasb-ext, none-lef
 use Rattle.basics.specs.Tests.{_and_, _implies_, all}
 use Rattle.basics.specs.Lists.{word, tabulate}
 use Rattle.basics.proofs.TestLaws.{
-    and-intro, and-left, and-right, chosen, passed-over, tested, same-test, true-T, T-true, T-false, false-T, all-at, all-intro, implies-use,
-    implies-intro, eq-T, below-or-not
+    and-intro, and-left, and-right, chosen, passed-over, tested, same-test, true-T, T-true, all-at, all-intro, implies-use, implies-intro,
+    eq-T, below-or-not
 }
 use Rattle.grammar.specs.Limits.{mostAttributes}
-use Rattle.grammar.specs.Table.{attributes, mask, inherited}
+use Rattle.grammar.specs.Table.{attributes, mask}
 use Rattle.relations.specs.Computed.{arcIn}
 use Rattle.sets.specs.Paper.{ofClass}
 use Rattle.sets.specs.Computed.{takes, placedUpTo, unplaced}
 use Rattle.sets.proofs.Placing.{one-step, none-at-first}
 use Rattle.basics.proofs.ListLaws.{length-tabulate, getD-tabulate}
 use Rattle.closing.specs.Rows.{rewritten}
-use Rattle.placing.specs.Masks.{stays, takenFrom, numbered, classOf}
+use Rattle.placing.specs.SymbolSets.{stays, takenFrom, numbered, classOf}
 
 -- the set of a symbol's attributes
 below-forth : (n a : ℕ) → T (hasb a (below n)) → a < n

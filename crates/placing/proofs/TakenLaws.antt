@@ -8,15 +8,14 @@ use mathlib.Core.List.{List}
 use native.Mathlib.Omega.{arith}
 use lib.Dec.{T, eqb, T-not, not-T}
 use lib.ListN.{length, set}
-use Rattle.bits.specs.Bit.{bit, hasb, collect, common, minus, field, insert, remove, First}
+use Rattle.bits.specs.Bit.{hasb, common, minus, field, insert, remove, First}
 use Rattle.bits.proofs.BitLaws.{bit-has}
-use Rattle.bits.proofs.SetLaws.{insert-lt, remove-less, remove-lt, common-lt}
+use Rattle.bits.proofs.SetLaws.{insert-lt, remove-lt, common-lt}
 use Rattle.bits.proofs.CollectLaws.{collect-lt}
 use Rattle.bits.proofs.MemberLaws.{hasb-collect, hasb-below, hasb-ext, insert-cases, insert-new, insert-old, has-not, has-other, none-left}
-use Rattle.basics.specs.Tests.{_and_}
-use Rattle.basics.proofs.TestLaws.{and-intro, and-left, and-right, chosen, passed-over, tested, same-test, same-or-not, true-T, T-true, T-false}
+use Rattle.basics.proofs.TestLaws.{and-intro, and-left, and-right, tested, same-test, same-or-not, true-T, T-true, T-false}
 use Rattle.closing.proofs.RewriteLaws.{Rewriting, rewriting-start, turn, finish}
-use Rattle.placing.specs.Masks.{stays, takenFrom, numbered}
+use Rattle.placing.specs.SymbolSets.{stays, takenFrom, numbered}
 
 -- a member of what is taken is a candidate that is done and stays
 pub record Taking (arcs unplaced class left taken : ℕ) : Type 0 where

@@ -1,14 +1,16 @@
 // The sets of each nonterminal, set after set from the end (000, section 7, step 3), with attributes as bits.
+use grammar::SET_WORDS;
 ghost use mathlib.Core.Path.{_≡_};
 ghost use mathlib.Core.Bool.{cond};
 ghost use Prim.Native.Nat.{_+_, _*_, _≤_, _<_};
 ghost use lib.ListN.{length};
 ghost use Rattle.bits.specs.Bit as bit;
 ghost use Rattle.grammar.specs.declared.Verdict.the-variants.{Good};
+ghost use Rattle.grammar.specs.Limits as limits;
 ghost use Rattle.grammar.specs.Reading.{readTable};
 ghost use Rattle.grammar.specs.WellFormed.{SymbolFormed};
 ghost use Rattle.sets.specs.Computed.{setsOf};
-ghost use Rattle.placing.specs.Masks as masks;
+ghost use Rattle.placing.specs.SymbolSets as masks;
 
 // All unplaced successors of attribute a are of the class.
 fn stays(arcs: u64, unplaced: u64, class: u64, a: usize) -> bool
@@ -84,23 +86,23 @@ fn place_symbol(sets: &mut [u16], at: usize, every: u64, inherited: u64, arcs: u
 fn place_nonterminal(words: &[u16], x: usize, arcs: u64, sets: &mut [u16])
     requires { ⌜ SymbolFormed (now words) x ⌝ }
     requires { ⌜ x < 32 ⌝ }
-    requires { ⌜ length (now sets) ≡ 256 ⌝ }
+    requires { ⌜ length (now sets) ≡ limits.setWords ⌝ }
     ensures { λ _. ⌜ now (sets .exit) ≡ masks.placedNonterminal (now (words .entry)) x arcs (now (sets .entry)) ⌝ }
 {
-    if reader::nonterminal(words, x) {
-        let every = bits::below(reader::attributes(words, x));
-        place_symbol(sets, 8 * x, every, reader::mask(words, x) as u64, arcs);
+    if access::nonterminal(words, x) {
+        let every = bits::below(access::attributes(words, x));
+        place_symbol(sets, 8 * x, every, access::mask(words, x) as u64, arcs);
         return;
     }
 }
 
 // The set words of a plan, of a table that is accepted and its IDS.
-pub fn sets_of(words: &[u16], ids: &[u64; 32]) -> [u16; 256]
+pub fn sets_of(words: &[u16], ids: &[u64; 32]) -> [u16; SET_WORDS]
     requires { ⌜ readTable (now words) ≡ Good ⌝ }
     ensures { λ r. ⌜ r ≡ setsOf (now (words .entry)) (now (ids .entry)) ⌝ }
 {
-    let mut sets = [0u16; 256];
-    for x in 0..reader::word(words, 0) {
+    let mut sets = [0u16; SET_WORDS];
+    for x in 0..access::word(words, 0) {
         place_nonterminal(words, x, ids[x], &mut sets);
     }
     sets

@@ -4,13 +4,12 @@ use Prim.Native.Nat.{ℕ}
 use mathlib.Core.Path.{_≡_, refl}
 use mathlib.Core.List.{List}
 use native.Mathlib.Omega.{arith}
-use Rattle.refusals.specs.declared.Refusal.{Refusal}
 use Rattle.grammar.specs.declared.Verdict.{Verdict}
 use Rattle.grammar.specs.declared.Verdict.the-variants.{Good, Refused}
 use Rattle.grammar.specs.Reading.{readTable}
 use Rattle.grammar.proofs.VerdictLaws.{then-first, then-second}
-use Rattle.planning.specs.declared.Planned as P
-use Rattle.planning.specs.Answer.{Outcome, untouched, circularIdp, unordered, accepted, room, afterReading, outcome, answerOf}
+use Rattle.plans.specs.declared.Planned as P
+use Rattle.plans.specs.Answer.{Outcome, untouched, circularIdp, unordered, accepted, room, afterReading, outcome, answerOf}
 
 module _ (g : List ℕ) where
   pub is-accepted : (o : Outcome) (n : ℕ) → P.the-variants.Accepted n ≡ answerOf g o → o ≡ accepted

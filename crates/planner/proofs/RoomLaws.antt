@@ -1,22 +1,19 @@
 -- Refusal 8: room in the rows, then in the plan.
 -- Assumes nothing.
 use Prim.Native.Nat.{ℕ, _+_, _*_, _≤_, _<_}
-use mathlib.Core.Path.{_≡_, refl, sym, _∙_, ap, subst}
-use mathlib.Core.Bool.{Bool, true, false}
+use mathlib.Core.Path.{_≡_, refl}
 use mathlib.Core.List.{List}
 use native.Mathlib.Omega.{arith}
-use lib.Dec.{T, leb, leb→le}
+use lib.Dec.{leb, leb→le}
 use lib.ListN.{getD}
 use borrow.Author.Tests.{le-leb, lt-leb}
 use Rattle.refusals.specs.declared.Refusal.the-variants.{TooShort}
-use Rattle.grammar.specs.declared.Verdict.{Verdict}
 use Rattle.grammar.specs.declared.Verdict.the-variants.{Good, Refused}
 use Rattle.grammar.specs.Limits.{rowWords, planWords}
 use Rattle.grammar.specs.Table.{rules}
-use Rattle.grammar.specs.Verdicts.{_then_, unless}
 use Rattle.grammar.proofs.VerdictLaws.{then-first, then-second, unless-passes}
-use Rattle.reader.proofs.Laws.{stops, passes, unless-true, unless-false}
-use Rattle.planning.specs.Answer.{room}
+use Rattle.access.proofs.Laws.{stops, passes, unless-true, unless-false}
+use Rattle.plans.specs.Answer.{room}
 
 pub rows-short : (g : List ℕ) (rows plan n : ℕ) → n ≡ getD g 1 0 → rows < 64 * n → Refused (TooShort 0) ≡ room g rows plan
 unfolding room

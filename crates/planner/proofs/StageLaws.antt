@@ -1,7 +1,7 @@
 -- What planning answers and leaves at each stage, by what the searches found.
 -- Assumes nothing.
 use Prim.Native.Nat.{ℕ, _+_, _*_, _≤_}
-use mathlib.Core.Path.{_≡_, refl, sym, _∙_, ap, ap₂, subst, subst⁻¹}
+use mathlib.Core.Path.{_≡_, refl, sym, _∙_, ap, ap₂, subst⁻¹}
 use mathlib.Core.Bool.{Bool, true, false, cond}
 use mathlib.Core.List.{List}
 use native.Mathlib.Omega.{arith}
@@ -17,29 +17,29 @@ use Rattle.grammar.specs.Limits.{planWords}
 use Rattle.grammar.specs.Table.{rules}
 use Rattle.grammar.specs.Reading.{readTable}
 use Rattle.grammar.specs.Verdicts.{_then_}
-use Rattle.grammar.proofs.Accepted.{accepted as formed}
+use Rattle.grammar.proofs.AcceptedTable.{accepted as formed}
 use Rattle.relations.specs.Computed.{idsOf}
 use Rattle.sets.specs.Computed.{setsOf}
-use Rattle.ordered.specs.Computed.{circular, cycleRule, cycleOccurrence}
-use Rattle.reader.specs.Offsets.{offsetsFor}
-use Rattle.reader.proofs.Laws.{stops, passes}
+use Rattle.order.specs.Computed.{circular, cycleRule, cycleOccurrence}
+use Rattle.access.specs.Offsets.{offsetsFor}
+use Rattle.access.proofs.Laws.{stops, passes}
 use Rattle.inducing.specs.declared.Cycle.{Cycle}
 use Rattle.inducing.specs.declared.Cycle.the-variants.{At, Nothing}
 use Rattle.inducing.specs.Cycles.{cycleIn}
 use Rattle.inducing.proofs.CycleLaws.{cycle-found, cycle-nothing}
 use Rattle.inducing.proofs.ExactLaws.{padded-word}
-use Rattle.planning.proofs.RowWords.{rows-length, over-length}
-use Rattle.placing.proofs.SameSets.{sets-same}
-use Rattle.planning.specs.declared.Planned as P
-use Rattle.planning.specs.Buffers.{over, rowsOf}
-use Rattle.planning.specs.Answer.{
+use Rattle.plans.proofs.RowWords.{rows-length, over-length}
+use Rattle.placing.proofs.SameSymbolSets.{sets-same}
+use Rattle.plans.specs.declared.Planned as P
+use Rattle.plans.specs.Buffers.{over, rowsOf}
+use Rattle.plans.specs.Answer.{
     Outcome, untouched, circularIdp, unordered, accepted, room, stuckIn, idpPaths, edpPaths, afterEdp, afterIdp, afterRoom, afterReading, outcome, answerOf, rowsAfter, planAfter,
     acceptedPlan
 }
-use Rattle.planning.proofs.Answers.{no-idp-cycle, no-edp-cycle, comes}
-use Rattle.planning.proofs.Ordered.{CycleFree, free-accepted}
+use Rattle.plans.proofs.Answers.{no-idp-cycle, no-edp-cycle, comes}
+use Rattle.plans.proofs.Ordered.{CycleFree, free-accepted}
 use Rattle.planner.specs.Answered.{Answered}
-use Rattle.planner.specs.Ready.{Read, Noncircular, Ordered, Came, sets, afterEight, afterNine}
+use Rattle.planner.specs.Stages.{Read, Noncircular, Ordered, Came, sets, afterEight, afterNine}
 use Rattle.planner.proofs.RoomLaws.{rows-room, plan-room}
 use Rattle.planner.proofs.WriteLaws.{over-over}
 

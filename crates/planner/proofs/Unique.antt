@@ -4,8 +4,8 @@ use mathlib.Core.Path.{_≡_, refl, sym, _∙_}
 use mathlib.Core.List.{List}
 use Prim.Native.Nat.{ℕ}
 use lib.ListN.{length}
-use Rattle.planning.specs.declared.Planned as P
-use Rattle.planning.specs.Answer.{Outcome, outcome, answerOf, rowsAfter, planAfter}
+use Rattle.plans.specs.declared.Planned as P
+use Rattle.plans.specs.Answer.{Outcome, outcome, answerOf, rowsAfter, planAfter}
 use Rattle.planner.specs.Answered.{Answered}
 
 pub every-input : (g rows plan : List ℕ) → (answer : P.Planned) × (rows′ : List ℕ) × (plan′ : List ℕ) × Answered g rows plan answer rows′ plan′

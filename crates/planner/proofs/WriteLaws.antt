@@ -11,19 +11,19 @@ use lib.Seq.{take-append-seam, drop-append-add, drop-drop}
 use Rattle.basics.specs.Lists.{word, blocks}
 use Rattle.basics.proofs.ListLaws.{length-blocks, length-padded}
 use Rattle.grammar.specs.Table.{rules}
-use Rattle.grammar.proofs.Accepted.{accepted}
+use Rattle.grammar.proofs.AcceptedTable.{accepted}
 use Rattle.relations.specs.Computed.{idsOf}
 use Rattle.sets.specs.Computed.{setsOf}
 use Rattle.sets.proofs.SetWords.{length-sets}
 use Rattle.sequences.specs.Order.{sequenceOf}
-use Rattle.sequences.proofs.Planned.{planned-short}
-use Rattle.planning.specs.Buffers.{over, sequenceWords, planOf}
-use Rattle.planning.specs.Answer.{edpPaths, sequencesOf, acceptedPlan}
-use Rattle.planning.proofs.Answers.{no-idp-cycle, no-edp-cycle}
-use Rattle.inducing.proofs.RuleLaws.{offset-is}
-use Rattle.planning.proofs.RowWords.{over-size, over-row}
+use Rattle.sequences.proofs.PlannedSequences.{planned-short}
+use Rattle.plans.specs.Buffers.{over, sequenceWords, planOf}
+use Rattle.plans.specs.Answer.{edpPaths, sequencesOf, acceptedPlan}
+use Rattle.plans.proofs.Answers.{no-idp-cycle, no-edp-cycle}
+use Rattle.inducing.proofs.RuleRowLaws.{offset-is}
+use Rattle.plans.proofs.RowWords.{over-size, over-row}
 use Rattle.sequencing.specs.Given.{Given, written}
-use Rattle.planner.specs.Ready.{Ordered, sets}
+use Rattle.planner.specs.Stages.{Ordered, sets}
 
 -- a block written after what is already written
 over-written : (done block lent : List ℕ) → written (over done lent) (length done) block ≡ over (done ++ block) lent

@@ -4,8 +4,8 @@ use Prim.Native.Nat.{ℕ}
 use mathlib.Core.Path.{_≡_}
 use mathlib.Core.List.{List}
 use lib.ListN.{length}
-use Rattle.planning.specs.declared.Planned as P
-use Rattle.planning.specs.Answer.{outcome, answerOf, rowsAfter, planAfter}
+use Rattle.plans.specs.declared.Planned as P
+use Rattle.plans.specs.Answer.{outcome, answerOf, rowsAfter, planAfter}
 
 -- g is the table, rows and plan are as they were lent, rows′ and plan′ as they are left
 pub record Answered (g rows plan : List ℕ) (answer : P.Planned) (rows′ plan′ : List ℕ) : Type 0 where

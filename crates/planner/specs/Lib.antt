@@ -1,2 +1,2 @@
-pub mod Ready
+pub mod Stages
 pub mod Answered

@@ -1,48 +1,52 @@
 // Planning: a grammar's table in, its sets and visit-sequences out, or the first refusal of 1 to 11 that applies (000, section 7).
+use grammar::Offsets;
+use grammar::ROWS;
+use grammar::RULE_WORDS;
+use grammar::SET_WORDS;
 use grammar::Verdict;
 use inducing::Cycle;
-use planning::Planned;
+use plans::Planned;
 use refusals::Refusal;
 
 ghost use mathlib.Core.Path.{_≡_};
 ghost use lib.ListN.{length};
-ghost use Rattle.planning.specs.Buffers.{over};
-ghost use Rattle.planning.specs.Answer as answer;
+ghost use Rattle.plans.specs.Buffers.{over};
+ghost use Rattle.plans.specs.Answer as answer;
 ghost use Rattle.planner.specs.Answered as answered;
-ghost use Rattle.planner.specs.Ready as ready;
+ghost use Rattle.planner.specs.Stages as ready;
 
 // 8: room in the rows, then in the plan.
 fn room(words: &[u16], rows: usize, plan: usize) -> Verdict
     ensures { λ r. ⌜ r ≡ answer.room (now (words .entry)) rows plan ⌝ }
 {
-    let rules = reader::word(words, 1);
-    if rows < 64 * rules {
+    let rules = access::word(words, 1);
+    if rows < ROWS * rules {
         return Verdict::Refused(Refusal::TooShort(0));
     }
-    if plan < 256 + 112 * rules {
+    if plan < SET_WORDS + RULE_WORDS * rules {
         return Verdict::Refused(Refusal::TooShort(1));
     }
     Verdict::Good
 }
 
 // The plan of an ordered grammar: its set words, then the visit-sequence of each rule.
-fn write_plan(words: &[u16], offsets: &[u16; 64], sets: &[u16; 256], rows: &[u64], plan: &mut [u16])
+fn write_plan(words: &[u16], offsets: &Offsets, sets: &[u16; 256], rows: &[u64], plan: &mut [u16])
     requires { ⌜ ready.Ordered (now words) (now offsets) (now sets) (now rows) (length (now plan)) ⌝ }
     ensures { λ _. ⌜ now (plan .exit) ≡ over (answer.acceptedPlan (now (words .entry))) (now (plan .entry)) ⌝ }
 {
     sequencing::write(plan, 0, sets);
-    let count = reader::word(words, 1);
+    let count = access::word(words, 1);
     for r in 0..count {
         sequencing::sequence(words, inducing::rule_at(offsets, r), r, sets, rows, plan);
     }
 }
 
 // What comes after 9: the sets, EDP and the plan.
-fn plan_noncircular(words: &[u16], offsets: &[u16; 64], ids: &[u64; 32], rows: &mut [u64], plan: &mut [u16]) -> Planned
+fn plan_noncircular(words: &[u16], offsets: &Offsets, ids: &[u64; 32], rows: &mut [u64], plan: &mut [u16]) -> Planned
     requires { ⌜ ready.Noncircular (now words) (now offsets) (now ids) (now rows) (length (now plan)) ⌝ }
     ensures { λ r. ⌜ ready.Came (now (words .entry)) (ready.afterNine (now (words .entry))) (now (rows .entry)) (now (plan .entry)) r (now (rows .exit)) (now (plan .exit)) ⌝ }
 {
-    let rules = reader::word(words, 1);
+    let rules = access::word(words, 1);
     let sets = placing::sets_of(words, ids);
     extending::extend(words, offsets, &sets, rows);
     let edp_cycle = inducing::find_cycle(rows, rules);
@@ -50,16 +54,16 @@ fn plan_noncircular(words: &[u16], offsets: &[u16; 64], ids: &[u64; 32], rows: &
         return Planned::Refused(Refusal::CircularEdp(r, o));
     }
     write_plan(words, offsets, &sets, rows, plan);
-    Planned::Accepted(256 + 112 * rules)
+    Planned::Accepted(SET_WORDS + RULE_WORDS * rules)
 }
 
 // What comes after the room: IDP, and the rest where it has no cycle.
-fn plan_relations(words: &[u16], offsets: &[u16; 64], rows: &mut [u64], plan: &mut [u16]) -> Planned
+fn plan_relations(words: &[u16], offsets: &Offsets, rows: &mut [u64], plan: &mut [u16]) -> Planned
     requires { ⌜ ready.Read (now words) (now offsets) (length (now rows)) (length (now plan)) ⌝ }
     ensures { λ r. ⌜ ready.Came (now (words .entry)) (ready.afterEight (now (words .entry))) (now (rows .entry)) (now (plan .entry)) r (now (rows .exit)) (now (plan .exit)) ⌝ }
 {
     let ids = inducing::induce(words, offsets, rows);
-    let idp_cycle = inducing::find_cycle(rows, reader::word(words, 1));
+    let idp_cycle = inducing::find_cycle(rows, access::word(words, 1));
     if let Cycle::At(r, o) = idp_cycle {
         return Planned::Refused(Refusal::CircularIdp(r, o));
     }

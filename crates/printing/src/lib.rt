@@ -1,8 +1,11 @@
 // Lines of words and numbers on standard output, for the programs that show what a run does.
 use libc::STDOUT_FILENO;
 use refusals::Refusal;
-use running::Ran;
-use running::Report;
+use runs::Ran;
+use runs::Report;
+
+ghost use mathlib.Core.Path.{_≡_};
+ghost use lib.IntN.{natAbs};
 
 // A word as it stands.
 pub fn word(text: &[u8]) {
@@ -16,7 +19,9 @@ pub fn number(n: u64) {
 }
 
 // A value without its sign.
-fn magnitude(v: i32) -> u64 {
+fn magnitude(v: i32) -> u64
+    ensures { λ r. ⌜ r ≡ natAbs v ⌝ }
+{
     let wide = v as i64;
     if wide < 0 {
         return (0 - wide) as u64;

@@ -18,8 +18,8 @@ use Rattle.grammar.specs.declared.Verdict.the-variants.{Good, Refused}
 use Rattle.grammar.specs.Table.{functionAt, functionsAt}
 use Rattle.grammar.specs.Verdicts.{each}
 use Rattle.grammar.proofs.VerdictLaws.{then-first, then-second, unless-passes}
-use Rattle.reader.specs.Places.{nextFunction, functionFrom, undefinedAfter, functionsFrom}
-use Rattle.reader.proofs.Laws.{each-none, each-more, each-stop, each-end, member-past}
+use Rattle.access.specs.ByPlace.{nextFunction, functionFrom, undefinedAfter, functionsFrom}
+use Rattle.access.proofs.Laws.{each-none, each-more, each-stop, each-end, member-past}
 
 -- the target of a function that passes is below 64
 pub target-fits : (g : List ℕ) (f occurrences undefined w : ℕ) (v : Verdict) → occurrences < 2 ^ 64 → v ≡ functionFrom g f occurrences undefined

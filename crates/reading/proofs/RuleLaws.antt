@@ -14,10 +14,10 @@ use Rattle.grammar.specs.Verdicts.{each}
 use Rattle.grammar.specs.Reading.{ranged}
 use Rattle.grammar.specs.WellFormed.{SymbolFormed}
 use Rattle.grammar.proofs.VerdictLaws.{then-first, each-at}
-use Rattle.grammar.proofs.Accepted.{ranged-passes}
-use Rattle.grammar.proofs.Places.{functions-bound}
-use Rattle.reader.specs.Places.{symbolFrom, occurrencesAt, definingsAt, Shaped, Symbols, leftFrom, symbolTest, undefinedAfter, functionsFrom, Handed}
-use Rattle.reader.proofs.Laws.{ranged-le, refused-good}
+use Rattle.grammar.proofs.AcceptedTable.{ranged-passes}
+use Rattle.grammar.proofs.RuleStarts.{functions-bound}
+use Rattle.access.specs.ByPlace.{symbolFrom, occurrencesAt, definingsAt, Shaped, Symbols, leftFrom, symbolTest, undefinedAfter, functionsFrom, Handed}
+use Rattle.access.proofs.Laws.{ranged-le, refused-good}
 
 -- a left symbol that passes is a symbol of the table
 pub left-symbol : (g : List ℕ) (p : ℕ) (v : Verdict) → v ≡ leftFrom g p → v ≡ Good → word g p < symbols g

@@ -1,16 +1,15 @@
 -- The loop over the rules: after r of them the next starts where the definition says, the offsets of those before it stand in their places,
 -- and the set says whether the rule just read is complete. Assumes nothing.
-use Prim.Native.Nat.{ℕ, suc, _+_, _-_, _*_, _≤_, _<_}
+use Prim.Native.Nat.{ℕ, suc, _+_, _*_, _≤_, _<_}
 use mathlib.Core.Path.{_≡_, refl, sym, _∙_, ap, ap₂}
 use mathlib.Core.Bool.{Bool}
-use mathlib.Core.List.{List, [], _++_}
+use mathlib.Core.List.{List}
 use native.Mathlib.Omega.{arith}
 use native.Mathlib.Numerals.{add-one}
 use lib.Dec.{leb, eqb}
 use lib.ListN.{length, set, replicate}
-use lib.Seq.{set-at, append-snoc}
 use Rattle.basics.specs.Lists.{tabulate, padded}
-use Rattle.basics.proofs.ListLaws.{padded-none, padded-more, length-tabulate}
+use Rattle.basics.proofs.ListLaws.{padded-none, padded-more}
 use Rattle.refusals.specs.declared.Refusal.{Refusal}
 use Rattle.refusals.specs.declared.Refusal.the-variants.{Undefined, LeftOver}
 use Rattle.grammar.specs.declared.Verdict.{Verdict}
@@ -19,11 +18,11 @@ use Rattle.grammar.specs.Table.{symbols, rules, ruleAt}
 use Rattle.grammar.specs.Verdicts.{_then_, unless, each}
 use Rattle.grammar.specs.Reading.{header, symbolFault, startClass, ruleBefore, ruleFault, leftOver, readTable}
 use Rattle.grammar.proofs.VerdictLaws.{each-at}
-use Rattle.grammar.proofs.Accepted.{symbol-formed, header-symbols, header-rules}
-use Rattle.reader.specs.Offsets.{offsetsFor}
-use Rattle.reader.specs.Places.{Symbols, ruleFrom, nextRule, leaves, Handed}
-use Rattle.reader.proofs.Laws.{passes, each-none, each-more, each-stop, each-end, each-of}
-use Rattle.reader.proofs.Same.{complete-same, rule-same}
+use Rattle.grammar.proofs.AcceptedTable.{symbol-formed, header-symbols, header-rules}
+use Rattle.access.specs.Offsets.{offsetsFor}
+use Rattle.access.specs.ByPlace.{Symbols, ruleFrom, nextRule, leaves, Handed}
+use Rattle.access.proofs.Laws.{passes, each-none, each-more, each-stop, each-end, each-of}
+use Rattle.access.proofs.Same.{complete-same, rule-same}
 
 -- a refused table has no offsets
 pub offsets-refused : (g : List ℕ) (v u : Verdict) (n : Refusal) (o : List ℕ) → v ≡ u → u ≡ Refused n → u ≡ readTable g → o ≡ replicate 64 0

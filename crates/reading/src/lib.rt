@@ -1,5 +1,7 @@
 // Reading a grammar table: the verdict with refusals 1 to 7, in one walk over the words.
 // A rule is handed on as the word it starts at, a function too; specs/Places.antt of the reader says the tests of each by that word.
+use grammar::MOST_RULES;
+use grammar::Offsets;
 use grammar::Verdict;
 use refusals::Refusal;
 ghost use mathlib.Core.Path.{_≡_};
@@ -14,8 +16,8 @@ ghost use Rattle.grammar.specs.declared.Verdict.the-variants as verdict;
 ghost use Rattle.grammar.specs.Table as table;
 ghost use Rattle.grammar.specs.Verdicts.{unless, each};
 ghost use Rattle.grammar.specs.Reading as reading;
-ghost use Rattle.reader.specs.Offsets.{offsetsFor};
-ghost use Rattle.reader.specs.Places as places;
+ghost use Rattle.access.specs.Offsets.{offsetsFor};
+ghost use Rattle.access.specs.ByPlace as places;
 
 // Whether o is a member of the set, for any number o.
 fn member(set: u64, o: usize) -> bool
@@ -72,16 +74,16 @@ fn between(low: usize, x: usize, high: usize) -> bool
 fn header(words: &[u16]) -> Verdict
     ensures { λ r. ⌜ r ≡ reading.header (now (words .entry)) ⌝ }
 {
-    let symbols = reader::word(words, 0);
+    let symbols = access::word(words, 0);
     let first = ranged(words, 0, between(1, symbols, 32));
     let Verdict::Good = first else {
         return first;
     };
-    let second = ranged(words, 1, between(1, reader::word(words, 1), 64));
+    let second = ranged(words, 1, between(1, access::word(words, 1), MOST_RULES));
     let Verdict::Good = second else {
         return second;
     };
-    ranged(words, 2, reader::word(words, 2) < symbols)
+    ranged(words, 2, access::word(words, 2) < symbols)
 }
 
 // The class of symbol x: a terminal inherits nothing.
@@ -89,10 +91,10 @@ fn symbol_class(words: &[u16], x: usize) -> bool
     requires { ⌜ x < 65536 ⌝ }
     ensures { λ r. ⌜ r ≡ (table.nonterminal (now (words .entry)) x or eqb (table.mask (now (words .entry)) x) 0) ⌝ }
 {
-    if reader::nonterminal(words, x) {
+    if access::nonterminal(words, x) {
         return true;
     }
-    reader::mask(words, x) == 0
+    access::mask(words, x) == 0
 }
 
 // The three words of symbol x.
@@ -101,8 +103,8 @@ fn symbol_fault(words: &[u16], x: usize) -> Verdict
     ensures { λ r. ⌜ r ≡ reading.symbolFault (now (words .entry)) x ⌝ }
 {
     let at = 3 + 3 * x;
-    let count = reader::attributes(words, x);
-    let first = ranged(words, at, reader::kind(words, x) <= 1);
+    let count = access::attributes(words, x);
+    let first = ranged(words, at, access::kind(words, x) <= 1);
     let Verdict::Good = first else {
         return first;
     };
@@ -110,7 +112,7 @@ fn symbol_fault(words: &[u16], x: usize) -> Verdict
     let Verdict::Good = second else {
         return second;
     };
-    let third = ranged(words, at + 2, reader::inherited_set(words, x) < bits::single(count));
+    let third = ranged(words, at + 2, access::inherited_set(words, x) < bits::single(count));
     let Verdict::Good = third else {
         return third;
     };
@@ -136,8 +138,8 @@ fn starts(words: &[u16], x: usize) -> bool
     requires { ⌜ x < 65536 ⌝ }
     ensures { λ r. ⌜ r ≡ (table.nonterminal (now (words .entry)) x and eqb (table.mask (now (words .entry)) x) 0) ⌝ }
 {
-    if reader::nonterminal(words, x) {
-        return reader::mask(words, x) == 0;
+    if access::nonterminal(words, x) {
+        return access::mask(words, x) == 0;
     }
     false
 }
@@ -145,19 +147,19 @@ fn starts(words: &[u16], x: usize) -> bool
 fn start_class(words: &[u16]) -> Verdict
     ensures { λ r. ⌜ r ≡ reading.startClass (now (words .entry)) ⌝ }
 {
-    unless(starts(words, reader::word(words, 2)), Refusal::WrongClass(2))
+    unless(starts(words, access::word(words, 2)), Refusal::WrongClass(2))
 }
 
 // The left symbol of the rule at word p.
 fn left_fault(words: &[u16], p: usize) -> Verdict
     ensures { λ r. ⌜ r ≡ places.leftFrom (now (words .entry)) p ⌝ }
 {
-    let left = reader::word(words, p);
-    let there = ranged(words, p, left < reader::word(words, 0));
+    let left = access::word(words, p);
+    let there = ranged(words, p, left < access::word(words, 0));
     let Verdict::Good = there else {
         return there;
     };
-    unless(reader::nonterminal(words, left), Refusal::WrongClass(p))
+    unless(access::nonterminal(words, left), Refusal::WrongClass(p))
 }
 
 // n symbols of a right side, from word p on.
@@ -166,9 +168,9 @@ fn right_fault(words: &[u16], p: usize, n: usize) -> Verdict
     requires { ⌜ n < 65536 ⌝ }
     ensures { λ r. ⌜ r ≡ each n (λ i. places.symbolTest (now (words .entry)) (p + i)) ⌝ }
 {
-    let symbols = reader::word(words, 0);
+    let symbols = access::word(words, 0);
     for i in 0..n {
-        let fault = ranged(words, p + i, reader::word(words, p + i) < symbols);
+        let fault = ranged(words, p + i, access::word(words, p + i) < symbols);
         let Verdict::Good = fault else {
             return fault;
         };
@@ -195,7 +197,7 @@ fn argument_fault(words: &[u16], q: usize, constant: bool, occurrences: u64) -> 
         return there;
     };
     unless(
-        argument_fits(constant, occurrences, reader::word(words, q)),
+        argument_fits(constant, occurrences, access::word(words, q)),
         Refusal::NoOccurrence(q),
     )
 }
@@ -205,8 +207,8 @@ fn arguments_fault(words: &[u16], f: usize, occurrences: u64) -> Verdict
     requires { ⌜ f < 1000000 ⌝ }
     ensures { λ r. ⌜ r ≡ places.argumentsFrom (now (words .entry)) f occurrences ⌝ }
 {
-    let op = reader::word(words, f + 1);
-    let n = reader::argument_words(op);
+    let op = access::word(words, f + 1);
+    let n = access::argument_words(op);
     for j in 0..n {
         let fault = argument_fault(words, f + 2 + j, op == 0, occurrences);
         let Verdict::Good = fault else {
@@ -225,7 +227,7 @@ fn function_fault(words: &[u16], f: usize, occurrences: u64, undefined: u64) -> 
     let Verdict::Good = there else {
         return there;
     };
-    let target = reader::word(words, f);
+    let target = access::word(words, f);
     let occurs = unless(member(occurrences, target), Refusal::NoOccurrence(f));
     let Verdict::Good = occurs else {
         return occurs;
@@ -234,7 +236,7 @@ fn function_fault(words: &[u16], f: usize, occurrences: u64, undefined: u64) -> 
     let Verdict::Good = defines else {
         return defines;
     };
-    let operation = ranged(words, f + 1, reader::word(words, f + 1) <= 8);
+    let operation = ranged(words, f + 1, access::word(words, f + 1) <= 8);
     let Verdict::Good = operation else {
         return operation;
     };
@@ -267,16 +269,16 @@ fn functions_fault(words: &[u16], p: usize, occurrences: u64, defining: u64) -> 
     ensures { λ r. ⌜ (r .verdict ≡ verdict.Good → r .next ≡ table.functionAt (now (words .entry)) p (table.functionsAt (now (words .entry)) p)) ⌝ }
     ensures { λ r. ⌜ (r .verdict ≡ verdict.Good → r .undefined ≡ places.undefinedAfter (now (words .entry)) p (table.functionsAt (now (words .entry)) p) defining) ⌝ }
 {
-    let count = reader::function_count(words, p);
-    let mut f = reader::first_function(words, p);
+    let count = access::function_count(words, p);
+    let mut f = access::first_function(words, p);
     let mut undefined = defining;
     for k in 0..count {
         let fault = function_fault(words, f, occurrences, undefined);
         let Verdict::Good = fault else {
             return stopped(fault);
         };
-        undefined = bits::without(undefined, reader::word(words, f));
-        f = reader::next_function(words, f);
+        undefined = bits::without(undefined, access::word(words, f));
+        f = access::next_function(words, f);
     }
     Rule {
         verdict: Verdict::Good,
@@ -293,7 +295,7 @@ fn body_fault(words: &[u16], p: usize) -> Rule
     ensures { λ r. ⌜ r .verdict ≡ places.bodyFrom (now (words .entry)) p ⌝ }
     ensures { λ r. ⌜ places.Handed (now (words .entry)) p (r .verdict) (r .next) (r .undefined) ⌝ }
 {
-    let n = reader::right_length(words, p);
+    let n = access::right_length(words, p);
     let short = ranged(words, p + 1, n <= 7);
     let Verdict::Good = short else {
         return stopped(short);
@@ -302,11 +304,11 @@ fn body_fault(words: &[u16], p: usize) -> Rule
     let Verdict::Good = right else {
         return stopped(right);
     };
-    let few = ranged(words, p + 2 + n, reader::function_count(words, p) <= 64);
+    let few = ranged(words, p + 2 + n, access::function_count(words, p) <= 64);
     let Verdict::Good = few else {
         return stopped(few);
     };
-    functions_fault(words, p, reader::occurrence_set(words, p), reader::defining_set(words, p))
+    functions_fault(words, p, access::occurrence_set(words, p), access::defining_set(words, p))
 }
 
 // 6: the rule before the one at word p left no defining occurrence without a function.
@@ -344,7 +346,7 @@ fn left_over(words: &[u16], p: usize) -> Verdict
 // The verdict on a table, and the word at which each of its rules starts.
 pub struct Reading {
     pub verdict: Verdict,
-    pub offsets: [u16; 64],
+    pub offsets: Offsets,
 }
 
 // A refused table has no offsets.
@@ -354,7 +356,7 @@ fn refused(verdict: Verdict) -> Reading
 {
     Reading {
         verdict,
-        offsets: [0u16; 64],
+        offsets: [0u16; MOST_RULES],
     }
 }
 
@@ -367,7 +369,7 @@ pub fn read(words: &[u16]) -> Reading
     let Verdict::Good = head else {
         return refused(head);
     };
-    let symbols = reader::word(words, 0);
+    let symbols = access::word(words, 0);
     let symbol = symbols_fault(words, symbols);
     let Verdict::Good = symbol else {
         return refused(symbol);
@@ -376,8 +378,8 @@ pub fn read(words: &[u16]) -> Reading
     let Verdict::Good = start else {
         return refused(start);
     };
-    let rules = reader::word(words, 1);
-    let mut offsets = [0u16; 64];
+    let rules = access::word(words, 1);
+    let mut offsets = [0u16; MOST_RULES];
     let mut p = 3 + 3 * symbols;
     let mut undefined: u64 = 0;
     for r in 0..rules {

@@ -1,8 +1,10 @@
 // A damaged tree for each refusal of 12 to 18: what is answered, how many values changed, and how many words of rows and plan.
-use worked::G;
-use worked::TWO_LINES;
+use samples::G;
+use samples::TWO_LINES;
 ghost use Prim.Native.Nat.{_≤_, _<_};
+ghost use mathlib.Core.Path.{_≡_};
 ghost use lib.ListN.{length};
+ghost use Rattle.refused_trees.specs.Changed as counts;
 
 // What stands in the buffers before: no value, row or plan word of this grammar is the same.
 const VALUE: i32 = 9;
@@ -11,20 +13,34 @@ const WORD: u16 = 65535;
 
 // What an element adds to the count of those that changed.
 fn one_if(changed: bool) -> u64
-    ensures { λ r. ⌜ r ≤ 1 ⌝ }
+    ensures { λ r. ⌜ counts.One changed r ⌝ }
 {
     if changed { 1 } else { 0 }
 }
 
-fn values_changed(values: &[i32]) -> u64 {
+// Whether a value is another than before.
+fn other_value(v: i32) -> bool
+    ensures { λ r. ⌜ r ≡ counts.otherValue v ⌝ }
+{
+    if v < VALUE {
+        return true;
+    }
+    VALUE < v
+}
+
+fn values_changed(values: &[i32]) -> u64
+    ensures { λ r. ⌜ r ≡ counts.valuesChanged (now (values .entry)) ⌝ }
+{
     let mut count: u64 = 0;
     for i in 0..values.len() {
-        count += one_if(values[i] != VALUE);
+        count += one_if(other_value(values[i]));
     }
     count
 }
 
-fn rows_changed(rows: &[u64]) -> u64 {
+fn rows_changed(rows: &[u64]) -> u64
+    ensures { λ r. ⌜ r ≡ counts.changed (now (rows .entry)) 18446744073709551615 ⌝ }
+{
     let mut count: u64 = 0;
     for i in 0..rows.len() {
         count += one_if(rows[i] != ROW);
@@ -32,7 +48,9 @@ fn rows_changed(rows: &[u64]) -> u64 {
     count
 }
 
-fn words_changed(plan: &[u16]) -> u64 {
+fn words_changed(plan: &[u16]) -> u64
+    ensures { λ r. ⌜ r ≡ counts.changed (now (plan .entry)) 65535 ⌝ }
+{
     let mut count: u64 = 0;
     for i in 0..plan.len() {
         count += one_if(plan[i] != WORD);

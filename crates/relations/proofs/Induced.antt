@@ -14,7 +14,7 @@ use Rattle.grammar.specs.Table.{
     ruleCounts
 }
 use Rattle.grammar.specs.WellFormed.{WellFormed}
-use Rattle.grammar.proofs.Accepted.{defining-occurs}
+use Rattle.grammar.proofs.AcceptedTable.{defining-occurs}
 use Rattle.relations.specs.Paper.{Path⁺, OnCycle, Stands, IDP, IDS, IDP⁺}
 use Rattle.relations.proofs.PathLaws.{path-closed, path-first, path-last}
 use Rattle.relations.proofs.Occurrences.{

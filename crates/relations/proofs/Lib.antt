@@ -2,5 +2,5 @@ pub mod PathLaws
 pub mod Occurrences
 pub mod Rounds
 pub mod Least
-pub mod Exact
+pub mod ExactIdp
 pub mod Induced

@@ -14,7 +14,7 @@ use Rattle.grammar.specs.Table.{
     symbols, rules, attributes, rightLength, symbolOf, occurrence, occurrenceOf, position, attribute, defining, ruleCounts
 }
 use Rattle.grammar.specs.WellFormed.{WellFormed}
-use Rattle.grammar.proofs.Accepted.{occurrence-fits}
+use Rattle.grammar.proofs.AcceptedTable.{occurrence-fits}
 use Rattle.relations.specs.Paper.{DP, Stands}
 use Rattle.relations.specs.Computed.{dp, occurrences}
 

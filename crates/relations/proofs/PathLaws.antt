@@ -1,11 +1,11 @@
 -- The computed path against the paper's: what is computed is a path, and every path between the listed numbers is computed.
 -- Paths compose, follow a larger relation, and start and end with an arc. Assumes nothing.
 use Prim.Native.Nat.{ℕ}
-use mathlib.Core.Path.{_≡_, subst}
-use mathlib.Core.Logic.{_⊎_, inl, inr, ⊎-elim}
+use mathlib.Core.Path.{subst}
+use mathlib.Core.Logic.{⊎-elim}
 use mathlib.Core.Bool.{Bool}
 use mathlib.Core.List.{List, [], _∷_}
-use lib.Dec.{T, eqb, eqb→eq}
+use lib.Dec.{T}
 use Rattle.basics.specs.Tests.{_and_, _or_}
 use Rattle.basics.specs.Lists.{member}
 use Rattle.basics.proofs.TestLaws.{or-left, or-right, or-cases, and-intro, and-left, and-right}

@@ -1,2 +1,2 @@
-pub mod WholeLaws
+pub mod WholeRunLaws
 pub mod Unique

@@ -4,9 +4,9 @@ use mathlib.Core.Path.{_≡_, refl, sym, _∙_, ap}
 use mathlib.Core.List.{List}
 use Prim.Native.Nat.{ℕ}
 use lib.IntN.{ℤ}
-use Rattle.planning.specs.Answer.{rowsAfter, planAfter}
-use Rattle.running.specs.declared.Ran as R
-use Rattle.running.specs.declared.Report.{Report}
+use Rattle.plans.specs.Answer.{rowsAfter, planAfter}
+use Rattle.runs.specs.declared.Ran as R
+use Rattle.runs.specs.declared.Report.{Report}
 use Rattle.runner.specs.Whole.{came, answer, values}
 use Rattle.runner.specs.Answered.{Answered}
 

@@ -4,8 +4,8 @@ use Prim.Native.Nat.{ℕ}
 use mathlib.Core.Path.{_≡_}
 use mathlib.Core.List.{List}
 use lib.IntN.{ℤ}
-use Rattle.planning.specs.Answer.{rowsAfter, planAfter}
-use Rattle.running.specs.declared.Report.{Report}
+use Rattle.plans.specs.Answer.{rowsAfter, planAfter}
+use Rattle.runs.specs.declared.Report.{Report}
 use Rattle.runner.specs.Whole.{came, answer, values}
 
 -- g is the table and t the tree; rows, plan and vs are as they were lent, rows′, plan′ and vs′ as they are left

@@ -8,13 +8,13 @@ use lib.ListN.{length}
 use Rattle.grammar.specs.declared.Verdict.the-variants.{Good}
 use Rattle.grammar.specs.Table.{rules}
 use Rattle.grammar.specs.Reading.{readTable}
-use Rattle.reader.specs.Offsets.{offsetsFor}
-use Rattle.planning.specs.Answer.{Outcome, accepted, outcome, planAfter}
+use Rattle.access.specs.Offsets.{offsetsFor}
+use Rattle.plans.specs.Answer.{Outcome, accepted, outcome, planAfter}
 use Rattle.trees.specs.Checking.{checkTree}
-use Rattle.running.specs.declared.Ran as R
-use Rattle.running.specs.declared.Report.{Report}
-use Rattle.running.specs.Sound as sound
-use Rattle.running.specs.Run.{runAnswer, valuesAfter}
+use Rattle.runs.specs.declared.Ran as R
+use Rattle.runs.specs.declared.Report.{Report}
+use Rattle.runs.specs.Sound as sound
+use Rattle.runs.specs.Run.{runAnswer, valuesAfter}
 
 -- how far planning comes, and the plan that it leaves
 unfoldable pub came : List ℕ → List ℕ → List ℕ → Outcome

@@ -1,8 +1,8 @@
 // The whole job: plan a grammar, check a tree against it and run the visit-sequences over the tree (document 01, refusals 1 to 18).
 use grammar::Verdict;
-use planning::Planned;
-use running::Ran;
-use running::Report;
+use plans::Planned;
+use runs::Ran;
+use runs::Report;
 
 ghost use Rattle.runner.specs.Answered as answered;
 ghost use Rattle.runner.specs.Whole as whole;

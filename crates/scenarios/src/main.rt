@@ -1,9 +1,10 @@
 // Runs: document 01's tree of two lines under every budget, and trees as large as a tree may be.
-use worked::G;
-use worked::TWO_LINES;
+use samples::G;
+use samples::TWO_LINES;
 ghost use mathlib.Core.Path.{_≡_};
 ghost use Prim.Native.Nat.{_+_, _*_, _≤_, _<_};
 ghost use lib.ListN.{length};
+ghost use Rattle.scenarios.specs.Nodes as nodes;
 
 // A chain in which each node tells the next how deep it is, and the depth of the last goes up to the root:
 // Z to A, A to A, A to nothing; A has the depth found below, its own depth, and 1 to add.
@@ -74,22 +75,30 @@ fn every_budget(first: i32, second: i32) {
 // Node n of a tree: its first word and two children, 0 where it has none.
 fn put_node(tree: &mut [u16; 8192], n: usize, rule: u16, first: u16, second: u16)
     requires { ⌜ (n < 1024) × (length (now tree) ≡ 8192) ⌝ }
-    ensures { λ _. ⌜ length (now (tree .exit)) ≡ 8192 ⌝ }
+    ensures { λ _. ⌜ nodes.Holds (nodes.put n rule first second (now (tree .entry))) (now (tree .exit)) ⌝ }
 {
     tree[8 * n] = rule;
     tree[8 * n + 1] = first;
     tree[8 * n + 2] = second;
 }
 
+// A node with rule 1 of G and its line.
+fn put_line(tree: &mut [u16; 8192], k: u16)
+    requires { ⌜ (k < 510) × (length (now tree) ≡ 8192) ⌝ }
+    ensures { λ _. ⌜ nodes.Holds (nodes.line k (now (tree .entry))) (now (tree .exit)) ⌝ }
+{
+    put_node(tree, (2 * k + 1) as usize, 1, 2 * k + 2, 2 * k + 3);
+    put_node(tree, (2 * k + 2) as usize, 32770, 0, 0);
+}
+
 // A tree of G with 511 lines: 1,023 nodes, of which every second one from node 2 on is a line.
 fn many_lines(tree: &mut [u16; 8192])
     requires { ⌜ length (now tree) ≡ 8192 ⌝ }
-    ensures { λ _. ⌜ length (now (tree .exit)) ≡ 8192 ⌝ }
+    ensures { λ _. ⌜ nodes.Holds (nodes.manyLines (now (tree .entry))) (now (tree .exit)) ⌝ }
 {
     put_node(tree, 0, 0, 1, 0);
     for k in 0..510u16 {
-        put_node(tree, (2 * k + 1) as usize, 1, 2 * k + 2, 2 * k + 3);
-        put_node(tree, (2 * k + 2) as usize, 32770, 0, 0);
+        put_line(tree, k);
     }
     put_node(tree, 1021, 2, 1022, 0);
     put_node(tree, 1022, 32770, 0, 0);
@@ -98,11 +107,11 @@ fn many_lines(tree: &mut [u16; 8192])
 // The chain with 1,024 nodes, all of them on the stack when the last is visited.
 fn long_chain(tree: &mut [u16; 8192])
     requires { ⌜ length (now tree) ≡ 8192 ⌝ }
-    ensures { λ _. ⌜ length (now (tree .exit)) ≡ 8192 ⌝ }
+    ensures { λ _. ⌜ nodes.Holds (nodes.longChain (now (tree .entry))) (now (tree .exit)) ⌝ }
 {
     put_node(tree, 0, 0, 1, 0);
-    for n in 1..1023u16 {
-        put_node(tree, n as usize, 1, n + 1, 0);
+    for k in 0..1022u16 {
+        put_node(tree, (k + 1) as usize, 1, k + 2, 0);
     }
     put_node(tree, 1023, 2, 0, 0);
 }

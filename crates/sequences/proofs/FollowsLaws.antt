@@ -11,7 +11,7 @@ use Rattle.basics.proofs.TestLaws.{and-intro, and-left, and-right, or-left, or-
 use Rattle.grammar.specs.Limits.{mostOccurrences}
 use Rattle.grammar.specs.Table.{symbolOf, defining}
 use Rattle.sets.specs.Visits.{visits}
-use Rattle.ordered.specs.Computed.{edp}
+use Rattle.order.specs.Computed.{edp}
 use Rattle.sequences.specs.Actions.{Action, compute, visit, leave, decode, makes, inheritedOf, synthesizedOf}
 use Rattle.sequences.specs.Follows.{linked, beforeVisit, beforeLeave, besides, follows}
 use Rattle.sequences.proofs.ActionLaws.{decode-compute, compute-makes}

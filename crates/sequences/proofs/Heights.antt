@@ -18,7 +18,7 @@ use Rattle.grammar.specs.Table.{
     symbols, attributes, nonterminal, symbolOf, occurrence, inheritedAt, defining, position, attribute, ruleCounts
 }
 use Rattle.grammar.specs.WellFormed.{WellFormed}
-use Rattle.grammar.proofs.Accepted.{occurrence-fits}
+use Rattle.grammar.proofs.AcceptedTable.{occurrence-fits}
 use Rattle.relations.specs.Paper.{Path⁺}
 use Rattle.relations.specs.Computed.{arcIn, occurrences}
 use Rattle.relations.proofs.PathLaws.{path-sound, path-complete}
@@ -29,7 +29,7 @@ use Rattle.sets.specs.Paper.{ofClass}
 use Rattle.sets.specs.Visits.{setNumber, visits, visitOfSet, visitOf}
 use Rattle.sets.proofs.Classes.{inherited-even, synthesized-odd}
 use Rattle.sets.proofs.Visits.{inherited-set, synthesized-set}
-use Rattle.ordered.specs.Computed.{besideArc, edp, edpPath}
+use Rattle.order.specs.Computed.{besideArc, edp, edpPath}
 use Rattle.sequences.specs.Actions.{Action, compute, visit, leave, none, numberOf, decode, isAction, visitAt, makes}
 use Rattle.sequences.specs.Follows.{besides, beforeVisit, beforeLeave, follows}
 use Rattle.sequences.proofs.ActionLaws.{

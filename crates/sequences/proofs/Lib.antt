@@ -3,8 +3,8 @@ pub mod OrderLaws
 pub mod ActionLaws
 pub mod FollowsLaws
 pub mod Heights
-pub mod Ready
+pub mod AlwaysReady
 pub mod SequenceLaws
-pub mod Planned
+pub mod PlannedSequences
 pub mod PaperActions
 pub mod PaperSequence

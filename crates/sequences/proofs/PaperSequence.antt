@@ -14,15 +14,15 @@ use Rattle.grammar.specs.declared.Verdict.the-variants.{Good}
 use Rattle.grammar.specs.Table.{symbols, rules, occurrence, ruleCounts}
 use Rattle.grammar.specs.Reading.{readTable}
 use Rattle.grammar.specs.WellFormed.{WellFormed}
-use Rattle.grammar.proofs.Accepted.{accepted}
+use Rattle.grammar.proofs.AcceptedTable.{accepted}
 use Rattle.relations.specs.Computed.{idsOf}
 use Rattle.relations.proofs.Occurrences.{counts-below, occurs-below}
 use Rattle.sets.specs.Visits.{setNumber}
 use Rattle.sets.specs.Computed.{setsOf}
-use Rattle.ordered.specs.Paper.{PaperSets, EDP, CircularIDP, IsOrdered}
-use Rattle.ordered.specs.Computed.{edp}
-use Rattle.ordered.proofs.Exact.{edp-exact, edp-from, edp-to}
-use Rattle.ordered.proofs.WholeGrammar.{number-is, edp-same, ordered-idp, ordered-back}
+use Rattle.order.specs.Paper.{PaperSets, EDP, CircularIDP, IsOrdered}
+use Rattle.order.specs.Computed.{edp}
+use Rattle.order.proofs.ExactEdp.{edp-exact, edp-from, edp-to}
+use Rattle.order.proofs.WholeGrammar.{number-is, edp-same, ordered-idp, ordered-back}
 use Rattle.sequences.specs.Actions.{
     Action, compute, visit, leave, none, numberOf, decode, actionNumbers, mostActions, actionsOf, makes
 }
@@ -35,7 +35,7 @@ use Rattle.sequences.proofs.FollowsLaws.{
     follows-cases, follows-linked, visit-after-visit, visit-after-compute, leave-after-leave, leave-after-compute, last-leave-after
 }
 use Rattle.sequences.proofs.SequenceLaws.{sequence-tie, sequence-one, every-action}
-use Rattle.sequences.proofs.Planned.{orderly, planned-short}
+use Rattle.sequences.proofs.PlannedSequences.{orderly, planned-short}
 use Rattle.sequences.proofs.PaperActions.{action-paper, inherited-paper, synthesized-paper, makes-forth, makes-back, left-visits}
 
 -- the tie rule goes by what the actions are and what follows what, however these are said

@@ -2,7 +2,7 @@
 -- The numbers that pass a test are such a list, and it stays one with a number taken out. Assumes nothing.
 use Prim.Native.Nat.{ℕ, zero, suc, _+_, _≤_, _<_}
 use mathlib.Core.Path.{_≡_, refl, sym, _∙_, ap, subst, subst⁻¹}
-use mathlib.Core.Logic.{_⊎_, inl, inr, ⊎-elim}
+use mathlib.Core.Logic.{⊎-elim}
 use mathlib.Core.Bool.{Bool, true, false, cond}
 use mathlib.Core.List.{List, [], _∷_, _++_}
 use native.Mathlib.Omega.{arith}
@@ -10,7 +10,7 @@ use lib.Dec.{T, eqb, eqb→eq, eqb-refl, T-not}
 use lib.ListN.{length, getD, length-append}
 use Rattle.basics.specs.Tests.{count}
 use Rattle.basics.specs.Lists.{member, without, passing}
-use Rattle.basics.proofs.TestLaws.{or-left, or-right, or-cases, true-T, false-T, eq-T, below-or-not}
+use Rattle.basics.proofs.TestLaws.{or-left, or-right, true-T, false-T, eq-T, below-or-not}
 use Rattle.basics.proofs.ListLaws.{member-append, passing-member, member-cases, member-none}
 
 -- each number is below all that stand after it

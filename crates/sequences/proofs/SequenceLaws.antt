@@ -14,13 +14,13 @@ use Rattle.grammar.specs.Limits.{mostOccurrences}
 use Rattle.grammar.specs.Table.{
     symbolOf, nonterminal, functions, target, argument, arguments, occurrence, inheritedAt, defining, position, attribute
 }
-use Rattle.grammar.proofs.Accepted.{defining-occurs}
+use Rattle.grammar.proofs.AcceptedTable.{defining-occurs}
 use Rattle.relations.specs.Paper.{Path⁺}
 use Rattle.relations.specs.Computed.{dp}
 use Rattle.relations.proofs.Occurrences.{counts-below, occurs-inside, dp-complete}
 use Rattle.sets.specs.Visits.{visits}
 use Rattle.sets.proofs.Visits.{some-visit, visit-inside}
-use Rattle.ordered.specs.Computed.{besideArc, edp}
+use Rattle.order.specs.Computed.{besideArc, edp}
 use Rattle.sequences.specs.Actions.{
     Action, compute, visit, leave, numberOf, decode, mostActions, isAction, actionsOf, visitAt, inheritedOf, synthesizedOf, makes
 }
@@ -41,7 +41,7 @@ use Rattle.sequences.proofs.FollowsLaws.{
     visit-after-visit, visit-after-compute, leave-after-leave, leave-after-compute, last-leave-after, compute-after
 }
 use Rattle.sequences.proofs.Heights.{Orderly, fits, arc-starts, setAt, set-low}
-use Rattle.sequences.proofs.Ready.{sequence-whole}
+use Rattle.sequences.proofs.AlwaysReady.{sequence-whole}
 
 module _ (g ids s : List ℕ) (r : ℕ) where
   -- how many actions the sequence has, and the one at a place

@@ -1,7 +1,7 @@
 -- Document 01, "Actions and ties": the actions of a rule and their numbers, and what each makes available.
 -- The set numbers are those of a list of set words s, so all of this holds for a plan from anyone. Assumes nothing.
 use Prim.Native.Nat.{ℕ, suc, _+_, _*_, _-_, _/_, _%_}
-use mathlib.Core.Bool.{Bool, true, false, cond, not}
+use mathlib.Core.Bool.{Bool, false, cond, not}
 use mathlib.Core.List.{List}
 use lib.Dec.{ltb, leb, eqb}
 use Rattle.basics.specs.Tests.{_and_}

@@ -1,14 +1,14 @@
 -- Document 01: which action follows which.
 -- Computed: no demand rests on it. Assumes nothing.
 use Prim.Native.Nat.{ℕ, suc}
-use mathlib.Core.Bool.{Bool, true, false, not}
+use mathlib.Core.Bool.{Bool, false, not}
 use mathlib.Core.List.{List}
 use lib.Dec.{eqb}
 use Rattle.basics.specs.Tests.{_and_, _or_, some}
 use Rattle.grammar.specs.Limits.{mostOccurrences}
 use Rattle.grammar.specs.Table.{symbolOf}
 use Rattle.sets.specs.Visits.{visits}
-use Rattle.ordered.specs.Computed.{edp}
+use Rattle.order.specs.Computed.{edp}
 use Rattle.sequences.specs.Actions.{
     Action, compute, visit, leave, none, decode, makes, inheritedOf, synthesizedOf
 }

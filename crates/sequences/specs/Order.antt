@@ -1,7 +1,7 @@
 -- Document 01: "The next action is always the lowest-numbered one whose predecessors are done."
 -- The construction is over any relation of following. Computed: no demand rests on it. Assumes nothing.
 use Prim.Native.Nat.{ℕ, zero, suc}
-use mathlib.Core.Bool.{Bool, true, false, cond, not}
+use mathlib.Core.Bool.{Bool, true, false, not}
 use mathlib.Core.List.{List, [], _∷_}
 use lib.Dec.{eqb}
 use lib.ListN.{length}

@@ -10,7 +10,7 @@ use Rattle.basics.specs.Lists.{word}
 use Rattle.grammar.specs.Limits.{mostAttributes}
 use Rattle.grammar.specs.Table.{kind, rightLength, symbolOf, occurrence, inheritedAt, defining, position, attribute}
 use Rattle.sets.specs.Visits.{highest, visitsFor, visitFor}
-use Rattle.ordered.specs.Paper.{EDP}
+use Rattle.order.specs.Paper.{EDP}
 use Rattle.sequences.specs.Actions.{Action, compute, visit, leave, decode}
 
 -- "m is the last set needed", and the visits of a symbol whose attributes have these set numbers

@@ -13,34 +13,21 @@ use lib.Pow.{pow-pos}
 use borrow.Author.Tests.{lt-ltb, le-ltb, le-leb, lt-leb}
 use Rattle.basics.specs.Tests.{_and_}
 use Rattle.basics.specs.Lists.{word}
-use Rattle.basics.proofs.TestLaws.{and-intro, and-left, and-right, tested, same-test, same-or-not, below-or-not, true-T, false-T, T-true, T-false}
+use Rattle.basics.proofs.TestLaws.{and-intro, and-left, and-right, tested, same-test, same-or-not, below-or-not, true-T, false-T, T-true}
 use Rattle.bits.specs.Bit.{bit, number, hasb, collect, insert, remove, below, union, common, minus, field, lowest, raised, First}
 use Rattle.bits.proofs.BitLaws.{bit-above, bit-below, bit-of-zero, bit-cases, bit-single-other, bit-has, bit-lacks, has-bit}
-use Rattle.bits.proofs.LowestLaws.{IsLowest, lowest-is, lowest-unique, bit-under-lowest}
-use Rattle.bits.proofs.SetLaws.{insert-lt, remove-less}
+use Rattle.bits.proofs.LowestLaws.{lowest-is, lowest-unique, bit-under-lowest}
+use Rattle.bits.proofs.SetLaws.{remove-less}
 use Rattle.bits.proofs.CollectLaws.{collect-lt, bit-collect-above}
 use Rattle.bits.proofs.MemberLaws.{
-  hasb-collect,
-  hasb-below,
-  hasb-ext,
-  insert-cases,
-  insert-new,
-  insert-old,
-  has-not,
-  has-other,
-  none-left,
-  union-cases,
-  union-left,
-  union-right,
-  minus-both,
-  both-minus,
+    hasb-collect, hasb-below, hasb-ext, has-not, has-other, none-left, union-cases, union-left, union-right, minus-both, both-minus
 }
 use Rattle.bits.proofs.RestLaws.{rest-of}
 use Rattle.grammar.specs.Table.{attributes, nonterminal, lengthAt}
 use Rattle.sets.specs.Visits.{setNumber, highest, lastSet, visits}
-use Rattle.reader.specs.Places.{symbolFrom, definingsAt, Shaped}
-use Rattle.reader.proofs.Blocks.{block-more, collect-rest, below-small}
-use Rattle.sequencing.specs.Masks.{
+use Rattle.access.specs.ByPlace.{symbolFrom, definingsAt, Shaped}
+use Rattle.access.proofs.Blocks.{block-more, collect-rest, below-small}
+use Rattle.sequencing.specs.RuleSets.{
   setMask,
   inheritedMask,
   synthesizedMask,

@@ -11,11 +11,11 @@ use Rattle.bits.specs.Bit.{hasb}
 use Rattle.bits.proofs.MemberLaws.{none-left}
 use Rattle.basics.proofs.TestLaws.{tested, chosen, passed-over, eq-T, or-cases, same-or-not, below-or-not}
 use Rattle.grammar.specs.Table.{kind, symbolOf, nonterminal, occurrence, inheritedAt, defining, position, attribute}
-use Rattle.grammar.proofs.Accepted.{defining-occurs}
+use Rattle.grammar.proofs.AcceptedTable.{defining-occurs}
 use Rattle.relations.proofs.Occurrences.{dp-sound, dp-target}
 use Rattle.sets.specs.Visits.{visits, visitOfSet, visitOf}
 use Rattle.sets.proofs.Visits.{number-to-last}
-use Rattle.ordered.specs.Computed.{edp}
+use Rattle.order.specs.Computed.{edp}
 use Rattle.sequences.specs.Actions.{Action, decode, isAction, visitAt, inheritedOf, synthesizedOf, makes}
 use Rattle.sequences.proofs.ActionLaws.{
     ActionIs, computes, visitsChild, leaves, action-is, inherited-of, synthesized-of, of-inherited, of-synthesized, makes-compute,

@@ -16,8 +16,8 @@ use Rattle.bits.proofs.ShiftLaws.{field-lt, has-field, has-raised, raised-low}
 use Rattle.bits.proofs.MemberLaws.{hasb-collect, hasb-below, hasb-ext, none-left, common-both, both-common}
 use Rattle.basics.proofs.TestLaws.{and-intro, and-left, and-right, eq-T, true-T, false-T, T-false, below-or-not}
 use Rattle.sets.specs.Visits.{setNumber, visits}
-use Rattle.reader.specs.Places.{symbolFrom}
-use Rattle.sequencing.specs.Masks.{setMask, inheritedMask, synthesizedMask, handedUp, handedDown, visitReady, readyVisits}
+use Rattle.access.specs.ByPlace.{symbolFrom}
+use Rattle.sequencing.specs.RuleSets.{setMask, inheritedMask, synthesizedMask, handedUp, handedDown, visitReady, readyVisits}
 
 module _ (s : List ℕ) (x k : ℕ) where
   pub mask-small : setMask s x k < 256

@@ -21,13 +21,13 @@ use Rattle.relations.specs.Computed.{idsOf}
 use Rattle.sets.specs.Visits.{setNumber, visits}
 use Rattle.sets.proofs.Visits.{visits-five}
 use Rattle.sets.specs.Computed.{setsOf}
-use Rattle.ordered.specs.Computed.{edpPath}
-use Rattle.ordered.specs.Paper.{EDP}
-use Rattle.ordered.proofs.Exact.{edp-path-exact}
+use Rattle.order.specs.Computed.{edpPath}
+use Rattle.order.specs.Paper.{EDP}
+use Rattle.order.proofs.ExactEdp.{edp-path-exact}
 use Rattle.relations.specs.Paper.{Path⁺}
 use Rattle.relations.proofs.PathLaws.{path-join}
-use Rattle.reader.specs.Places.{symbolFrom}
-use Rattle.reader.proofs.Accessors.{symbol-at-rule, rule-fits}
+use Rattle.access.specs.ByPlace.{symbolFrom}
+use Rattle.access.proofs.Accessors.{symbol-at-rule, rule-fits}
 use Rattle.sequences.specs.Actions.{Action, compute, visit, leave, decode, actionNumbers, inheritedOf, makes}
 use Rattle.sequences.specs.Follows.{follows}
 use Rattle.sequences.specs.Order.{ready}
@@ -52,13 +52,13 @@ use Rattle.sequences.proofs.ActionLaws.{
   inherited-of,
 }
 use Rattle.sequences.proofs.OrderLaws.{ready-use}
-use Rattle.sequences.proofs.Ready.{always-ready}
+use Rattle.sequences.proofs.AlwaysReady.{always-ready}
 use Rattle.sequences.proofs.Heights.{Orderly, setAt, fits, left-nonterminal, set-low}
-use Rattle.sequences.proofs.Planned.{orderly}
-use Rattle.planning.specs.Answer.{edpPaths}
+use Rattle.sequences.proofs.PlannedSequences.{orderly}
+use Rattle.plans.specs.Answer.{edpPaths}
 use Rattle.sequencing.specs.Given.{Given}
 use Rattle.sequencing.specs.Remaining.{remains, remaining, Going, Taken, Done}
-use Rattle.sequencing.specs.Masks.{handedUp, handedDown, readyVisits, Children, Leading, Closed, Blocked}
+use Rattle.sequencing.specs.RuleSets.{handedUp, handedDown, readyVisits, Children, Leading, Closed, Blocked}
 use Rattle.sequencing.proofs.Makers.{Attribute, odd-of-visit, even-of-visit, visit-odd, visit-even}
 use Rattle.sequencing.proofs.ReadyLaws.{waits-attribute, free-quiet, quiet-free, VisitReady, free-visit, ready-visit, free-leave}
 use Rattle.sequencing.proofs.OrderSteps.{taken}

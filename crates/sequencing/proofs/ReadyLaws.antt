@@ -15,7 +15,7 @@ use Rattle.relations.specs.Paper.{Path⁺}
 use Rattle.relations.specs.Computed.{occurrences}
 use Rattle.relations.proofs.PathLaws.{path-sound, path-arc}
 use Rattle.sets.specs.Visits.{visits}
-use Rattle.ordered.specs.Computed.{edp, edpPath}
+use Rattle.order.specs.Computed.{edp, edpPath}
 use Rattle.sequences.specs.Actions.{Action, visit, leave, numberOf, decode, visitAt, inheritedOf, synthesizedOf, makes}
 use Rattle.sequences.specs.Follows.{follows, besides, beforeVisit}
 use Rattle.sequences.proofs.ActionLaws.{
@@ -175,7 +175,7 @@ module _ (g ids s : List ℕ) (r : ℕ) (h : Orderly g ids s r) (five : (x : ℕ
     -- what is computed at the child and left, of visit n or an earlier one
     no-compute : (o : ℕ) → T (left o) → T (defining g r o) → position o ≡ i → visitAt g s r o ≤ n → ⊥
     no-compute o t d p l =
-        let k : o < mostOccurrences = fits g ids s r h o (Rattle.grammar.proofs.Accepted.defining-occurs g r o d) in
+        let k : o < mostOccurrences = fits g ids s r h o (Rattle.grammar.proofs.AcceptedTable.defining-occurs g r o d) in
         let made : T (makes g s r (decode o) o) =
                 subst⁻¹ (λ (x : Action). T (makes g s r x o)) (decode-compute o k) (compute-makes g s r o d) in
         let a : Attribute g r o = made-attribute g ids s r h o o (going .actions o t) made in

@@ -10,7 +10,7 @@ use Rattle.basics.specs.Lists.{word, tabulate}
 use Rattle.basics.proofs.ListLaws.{length-tabulate, getD-tabulate, length-blocks, getD-blocks, block-inside}
 use Rattle.bits.specs.Bit.{collect}
 use Rattle.grammar.specs.Table.{rules}
-use Rattle.planning.specs.Buffers.{over, rowsOf}
+use Rattle.plans.specs.Buffers.{over, rowsOf}
 
 -- word 64 r + o of the rows is the set of the paths from o in rule r
 pub row-words : (g rows lent : List ℕ) (paths : ℕ → ℕ → ℕ → Bool) (r o : ℕ) → rows ≡ over (rowsOf g paths) lent → r < rules g → o < 64

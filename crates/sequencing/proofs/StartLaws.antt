@@ -21,8 +21,8 @@ use Rattle.grammar.specs.Table.{rightLength, lengthAt, symbolOf, nonterminal, a
 use Rattle.relations.specs.Computed.{idsOf}
 use Rattle.relations.proofs.Occurrences.{occurs-inside, occurs-attribute}
 use Rattle.sets.specs.Visits.{setNumber, visits}
-use Rattle.reader.specs.Places.{symbolFrom}
-use Rattle.reader.proofs.Accessors.{definings-at-rule}
+use Rattle.access.specs.ByPlace.{symbolFrom}
+use Rattle.access.proofs.Accessors.{definings-at-rule}
 use Rattle.sequences.specs.Actions.{compute, visit, leave, decode, actionNumbers, isAction, actionsOf, inheritedOf, makes}
 use Rattle.sequences.proofs.ActionLaws.{
     ChildVisit, LeftLeave, decode-compute, decode-number, decode-leave, belongs-compute, belongs-visit, belongs-leave, action-belongs,
@@ -33,7 +33,7 @@ use Rattle.sequences.proofs.Heights.{setAt, fits, left-nonterminal}
 use Rattle.sequences.proofs.SequenceLaws.{maker, compute-stands, visit-stands, leave-stands}
 use Rattle.sequencing.specs.Given.{Given}
 use Rattle.sequencing.specs.Remaining.{remains, remaining, Going}
-use Rattle.sequencing.specs.Masks.{inheritedMask, visitFrom, madeFrom, Started}
+use Rattle.sequencing.specs.RuleSets.{inheritedMask, visitFrom, madeFrom, Started}
 use Rattle.sequencing.proofs.Makers.{Attribute, made-attribute, visit-even, first-unmade}
 use Rattle.sequencing.proofs.OrderSteps.{passing-same}
 use Rattle.sequencing.proofs.RemainsLaws.{remains-compute, remains-visit, remains-leave, Kind, aCompute, aVisit, aLeave, kind-of}

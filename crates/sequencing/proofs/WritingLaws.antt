@@ -12,16 +12,16 @@ use Rattle.bits.specs.Bit as bits
 use Rattle.bits.proofs.CountLaws.{count-le}
 use Rattle.relations.specs.Computed.{idsOf}
 use Rattle.sets.specs.Computed.{setsOf}
-use Rattle.reader.specs.Places.{Shaped}
-use Rattle.reader.proofs.Accessors.{shaped-rule}
+use Rattle.access.specs.ByPlace.{Shaped}
+use Rattle.access.proofs.Accessors.{shaped-rule}
 use Rattle.sequences.specs.Actions.{actionsOf}
 use Rattle.sequences.specs.Follows.{follows}
 use Rattle.sequences.specs.Order.{order, sequenceOf}
 use Rattle.sequences.proofs.ActionLaws.{at-most-104}
-use Rattle.planning.specs.Buffers.{sequenceWords}
+use Rattle.plans.specs.Buffers.{sequenceWords}
 use Rattle.sequencing.specs.Given.{Given, written}
 use Rattle.sequencing.specs.Remaining.{remains, remaining, Going, Taken}
-use Rattle.sequencing.specs.Masks.{Few, Started}
+use Rattle.sequencing.specs.RuleSets.{Few, Started}
 use Rattle.sequencing.proofs.NextLaws.{five-visits}
 use Rattle.sequencing.proofs.StartLaws.{starts-going, starts-all, starts-count}
 

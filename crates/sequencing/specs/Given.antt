@@ -12,8 +12,8 @@ use Rattle.grammar.specs.Reading.{readTable}
 use Rattle.relations.specs.Computed.{idsOf}
 use Rattle.sets.specs.Computed.{setsOf}
 use Rattle.sets.specs.Visits.{setNumber}
-use Rattle.ordered.specs.Paper.{CircularIDP, Ordered}
-use Rattle.planning.specs.Answer.{edpPaths}
+use Rattle.order.specs.Paper.{CircularIDP, Ordered}
+use Rattle.plans.specs.Answer.{edpPaths}
 
 -- What is known of rule r, which starts at word p: the table is accepted and ordered, s are its set words, and the rows of the rule
 -- hold the paths of its EDP.

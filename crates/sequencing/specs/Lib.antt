@@ -1,3 +1,3 @@
 pub mod Given
 pub mod Remaining
-pub mod Masks
+pub mod RuleSets

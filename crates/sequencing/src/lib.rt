@@ -1,19 +1,22 @@
 // The visit-sequence of one rule (000, section 6.3), written into the lent plan.
 // Three sets hold the actions that are left, a fourth the occurrences that wait to be made available; the lowest ready action is next.
+use grammar::RULE_WORDS;
+use grammar::SET_WORDS;
 ghost use mathlib.Core.Path.{_≡_};
 ghost use mathlib.Core.Bool.{cond};
 ghost use Prim.Native.Nat.{_+_, _*_, _-_, _/_, _%_, _≤_, _<_, max};
 ghost use lib.ListN.{length};
 ghost use Rattle.bits.specs.Bit as bit;
+ghost use Rattle.grammar.specs.Limits as limits;
 ghost use Rattle.grammar.specs.Table as table;
-ghost use Rattle.reader.specs.Places as places;
+ghost use Rattle.access.specs.ByPlace as places;
 ghost use Rattle.relations.specs.Computed.{idsOf};
 ghost use Rattle.sets.specs.Visits as visiting;
 ghost use Rattle.sets.specs.Computed.{setsOf};
 ghost use Rattle.sequences.specs.Order.{sequenceOf};
-ghost use Rattle.planning.specs.Buffers.{sequenceWords};
+ghost use Rattle.plans.specs.Buffers.{sequenceWords};
 ghost use Rattle.sequencing.specs.Given as given;
-ghost use Rattle.sequencing.specs.Masks as masks;
+ghost use Rattle.sequencing.specs.RuleSets as masks;
 ghost use Rattle.sequencing.specs.Remaining as spec;
 
 // The actions that are left, as bits: a compute by its occurrence, visit n of child i as 8i + (n - 1), leave n as n - 1.
@@ -58,7 +61,7 @@ fn set_mask(sets: &[u16], x: usize, k: usize) -> u64
 {
     let mut mask = 0;
     for a in 0..8usize {
-        mask = put(mask, a, reader::word(sets, 8 * x + a) == k);
+        mask = put(mask, a, access::word(sets, 8 * x + a) == k);
     }
     mask
 }
@@ -71,7 +74,7 @@ fn last_set(sets: &[u16], x: usize) -> usize
 {
     let mut last = 0;
     for a in 0..8usize {
-        last = larger(last, reader::word(sets, 8 * x + a));
+        last = larger(last, access::word(sets, 8 * x + a));
     }
     last
 }
@@ -109,7 +112,7 @@ fn child_visits(words: &[u16], sets: &[u16], x: usize) -> u64
     requires { ⌜ masks.Few (now sets) ⌝ }
     ensures { λ r. ⌜ r ≡ masks.childVisits (now (words .entry)) (now (sets .entry)) x ⌝ }
 {
-    if reader::nonterminal(words, x) {
+    if access::nonterminal(words, x) {
         return bits::below(visits_of(sets, x));
     }
     0
@@ -122,10 +125,10 @@ fn all_visits(words: &[u16], p: usize, sets: &[u16]) -> u64
     requires { ⌜ masks.Few (now sets) ⌝ }
     ensures { λ r. ⌜ r ≡ bit.collect 64 (λ b. masks.visitFrom (now (words .entry)) (now (sets .entry)) p b) ⌝ }
 {
-    let n = reader::right_length(words, p);
+    let n = access::right_length(words, p);
     let mut visits = 0;
     for i in 0..n {
-        let child = child_visits(words, sets, reader::symbol_of(words, p, i + 1));
+        let child = child_visits(words, sets, access::symbol_of(words, p, i + 1));
         visits = bits::union(bits::raised(child, 8 * (i + 1)), visits);
     }
     visits
@@ -137,8 +140,8 @@ fn made_attributes(words: &[u16], x: usize) -> u64
     requires { ⌜ table.attributes (now words) x ≤ 8 ⌝ }
     ensures { λ r. ⌜ r ≡ masks.madeAttributes (now (words .entry)) x ⌝ }
 {
-    if reader::nonterminal(words, x) {
-        return bits::below(reader::attributes(words, x));
+    if access::nonterminal(words, x) {
+        return bits::below(access::attributes(words, x));
     }
     0
 }
@@ -149,10 +152,10 @@ fn made_occurrences(words: &[u16], p: usize) -> u64
     requires { ⌜ places.Shaped (now words) p ⌝ }
     ensures { λ r. ⌜ r ≡ bit.collect 64 (λ o. masks.madeFrom (now (words .entry)) p o) ⌝ }
 {
-    let n = reader::right_length(words, p);
+    let n = access::right_length(words, p);
     let mut made = 0;
     for i in 0..n + 1 {
-        let there = made_attributes(words, reader::symbol_of(words, p, i));
+        let there = made_attributes(words, access::symbol_of(words, p, i));
         made = bits::union(bits::raised(there, 8 * i), made);
     }
     made
@@ -165,9 +168,9 @@ fn start(words: &[u16], p: usize, sets: &[u16]) -> State
     requires { ⌜ masks.Few (now sets) ⌝ }
     ensures { λ r. ⌜ masks.Started (now (words .entry)) (now (sets .entry)) p (r .computes) (r .visits) (r .leaves) (r .waiting) ⌝ }
 {
-    let left = reader::symbol_of(words, p, 0);
+    let left = access::symbol_of(words, p, 0);
     State {
-        computes: reader::defining_set(words, p),
+        computes: access::defining_set(words, p),
         visits: all_visits(words, p, sets),
         leaves: bits::below(visits_of(sets, left)),
         waiting: bits::minus(made_occurrences(words, p), inherited_of(sets, left, 1)),
@@ -200,7 +203,7 @@ fn visit_ready(words: &[u16], p: usize, sets: &[u16], visits: u64, waiting: u64,
     if bits::lowest(bits::field(visits, 8 * i)) < b % 8 {
         return false;
     }
-    let down = inherited_of(sets, reader::symbol_of(words, p, i), b % 8 + 1);
+    let down = inherited_of(sets, access::symbol_of(words, p, i), b % 8 + 1);
     bits::common(bits::field(waiting, 8 * i), down) == 0
 }
 
@@ -244,7 +247,7 @@ fn visit(words: &[u16], p: usize, sets: &[u16], state: State, b: usize) -> Step
     ensures { λ s. ⌜ spec.Done (s .action) (s .state .computes) (s .state .visits) (s .state .leaves) (s .state .waiting) (64 + b) (state .computes) (bit.remove b (state .visits)) (state .leaves) (bit.minus (state .waiting) (masks.handedUp (now (words .entry)) (now (sets .entry)) p b)) ⌝ }
 {
     let i = b / 8;
-    let up = synthesized_of(sets, reader::symbol_of(words, p, i), b % 8 + 1);
+    let up = synthesized_of(sets, access::symbol_of(words, p, i), b % 8 + 1);
     Step {
         action: 64 + b,
         state: State {
@@ -262,7 +265,7 @@ fn leave(words: &[u16], p: usize, sets: &[u16], state: State, b: usize) -> Step
     requires { ⌜ b < visiting.visits (now sets) (places.symbolFrom (now words) p 0) ⌝ }
     ensures { λ s. ⌜ spec.Done (s .action) (s .state .computes) (s .state .visits) (s .state .leaves) (s .state .waiting) (128 + b) (state .computes) (state .visits) (bit.remove b (state .leaves)) (bit.minus (state .waiting) (masks.handedDown (now (words .entry)) (now (sets .entry)) p b)) ⌝ }
 {
-    let down = inherited_of(sets, reader::symbol_of(words, p, 0), b + 2);
+    let down = inherited_of(sets, access::symbol_of(words, p, 0), b + 2);
     Step {
         action: 128 + b,
         state: State {
@@ -301,13 +304,13 @@ fn actions_left(state: State) -> usize
 }
 
 // The words of the sequence: length, actions, zeros.
-fn words_of(words: &[u16], p: usize, r: usize, sets: &[u16], rows: &[u64]) -> [u16; 112]
+fn words_of(words: &[u16], p: usize, r: usize, sets: &[u16], rows: &[u64]) -> [u16; RULE_WORDS]
     requires { ⌜ given.Given (now words) (now sets) (now rows) p r ⌝ }
     ensures { λ block. ⌜ block ≡ sequenceWords (sequenceOf (now (words .entry)) (idsOf (now (words .entry))) (now (sets .entry)) r) ⌝ }
 {
     let mut state = start(words, p, sets);
     let n = actions_left(state);
-    let mut block = [0u16; 112];
+    let mut block = [0u16; RULE_WORDS];
     block[0] = n as u16;
     for j in 0..n {
         let step = next(words, p, r, sets, rows, state);
@@ -332,14 +335,14 @@ pub fn sequence(
     words: &[u16],
     p: usize,
     r: usize,
-    sets: &[u16; 256],
+    sets: &[u16; SET_WORDS],
     rows: &[u64],
     plan: &mut [u16],
 )
     requires { ⌜ given.Given (now words) (now sets) (now rows) p r ⌝ }
-    requires { ⌜ 256 + 112 * table.rules (now words) ≤ length (now plan) ⌝ }
-    ensures { λ _. ⌜ now (plan .exit) ≡ given.written (now (plan .entry)) (256 + 112 * r) (sequenceWords (sequenceOf (now (words .entry)) (idsOf (now (words .entry))) (setsOf (now (words .entry)) (idsOf (now (words .entry)))) r)) ⌝ }
+    requires { ⌜ limits.planWords (table.rules (now words)) ≤ length (now plan) ⌝ }
+    ensures { λ _. ⌜ now (plan .exit) ≡ given.written (now (plan .entry)) (limits.planWords r) (sequenceWords (sequenceOf (now (words .entry)) (idsOf (now (words .entry))) (setsOf (now (words .entry)) (idsOf (now (words .entry)))) r)) ⌝ }
 {
     let block = words_of(words, p, r, sets, rows);
-    write(plan, 256 + 112 * r, &block);
+    write(plan, SET_WORDS + RULE_WORDS * r, &block);
 }

@@ -1,11 +1,10 @@
 -- Document 01, "Checked examples": what the listing prints for the bytes that it reads.
 -- Assumes nothing.
-use Prim.Native.Nat.{ℕ, zero, suc, _+_, _*_, _/_, _%_}
-use mathlib.Core.Bool.{Bool, true, false, cond}
+use Prim.Native.Nat.{ℕ, _+_, _*_, _/_, _%_}
+use mathlib.Core.Bool.{cond}
 use mathlib.Core.List.{List, [], _∷_, _++_}
 use lib.Dec.{eqb}
 use lib.ListN.{length, take}
-use Rattle.basics.specs.Tests.{_and_}
 use Rattle.basics.specs.Lists.{word, tabulate, blocks}
 use Rattle.refusals.specs.declared.Refusal.{Refusal}
 use Rattle.refusals.specs.declared.Refusal.the-variants.{EndsEarly}
@@ -15,7 +14,7 @@ use Rattle.grammar.specs.Table.{symbols, rules, nonterminal, attributes}
 use Rattle.relations.specs.Computed.{idsOf}
 use Rattle.sets.specs.Computed.{setsOf}
 use Rattle.sets.specs.Visits.{setNumber, visits}
-use Rattle.planning.specs.Answer.{Outcome, untouched, circularIdp, unordered, accepted, outcome, sequencesOf}
+use Rattle.plans.specs.Answer.{Outcome, untouched, circularIdp, unordered, accepted, outcome, sequencesOf}
 use Rattle.text.specs.Lines.{line, planWord, symbolWord, ruleWord, refusedWord}
 
 -- "A refusal prints `refused` and three numbers: number, place, second place."

@@ -12,14 +12,14 @@ use Rattle.grammar.specs.Table.{
     symbols, start, kind, attributes, nonterminal, inherited, rightLength, symbolOf, position, attribute, occurrence, inheritedAt
 }
 use Rattle.grammar.specs.WellFormed.{WellFormed, SymbolFormed, RuleFormed}
-use Rattle.grammar.proofs.Accepted.{defining-occurs}
+use Rattle.grammar.proofs.AcceptedTable.{defining-occurs}
 use Rattle.grammar.proofs.OccurrenceLaws.{
     none-inherited, occurs-inside, occurs-attribute, attribute-occurs, defining-left, defining-child, left-defining, child-defining
 }
 use Rattle.trees.specs.Tree.{terminalMark, nodes, ruleOf, appliesRule, child, symbolAtNode, nodeAt, cell, valueWords}
 use Rattle.trees.specs.Formed.{ChildOf, Parent, TreeFormed}
 use Rattle.trees.specs.Definers.{DefinedAt, Definer, AttributeOf}
-use Rattle.trees.proofs.Accepted.{rule-symbol, terminal-symbol}
+use Rattle.trees.proofs.AcceptedTree.{rule-symbol, terminal-symbol}
 
 -- a cell names its node
 pub cell-node : (t : List ℕ) (n o : ℕ) → cell t n o / 8 ≡ nodeAt t n (position o)

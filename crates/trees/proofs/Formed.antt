@@ -22,7 +22,7 @@ use Rattle.trees.specs.Checking.{
     sizeFits, knownWord, slotFits, slotsFit, nodeFault, rootIsStart, childrenFit, namesNode, onceChild, checkTree
 }
 use Rattle.trees.specs.Formed.{ChildOf, Parent, TreeFormed}
-use Rattle.trees.proofs.Accepted.{used-child, slot-names, names-slot, accepted-tree}
+use Rattle.trees.proofs.AcceptedTree.{used-child, slot-names, names-slot, accepted-tree}
 
 module _ (g t : List ℕ) (l : ℕ) (table : WellFormed g) (tree : TreeFormed g t l) where
   size : T (sizeFits t)

@@ -1,4 +1,4 @@
-pub mod Accepted
+pub mod AcceptedTree
 pub mod Formed
 pub mod Cells
 pub mod EquationLaws

@@ -1,11 +1,11 @@
 -- Document 01, refusals 12 to 18, in their order: 13 and 14 together in one walk up the nodes, the others each in a walk of its own.
 -- Computed: no demand rests on it. Assumes nothing.
-use Prim.Native.Nat.{ℕ, zero, suc, _+_, _*_, _-_, _/_, _%_}
-use mathlib.Core.Bool.{Bool, true, false, cond, not}
+use Prim.Native.Nat.{ℕ, zero, suc, _*_, _-_, _/_, _%_}
+use mathlib.Core.Bool.{Bool, true, cond, not}
 use mathlib.Core.List.{List}
 use lib.Dec.{ltb, leb, eqb}
 use lib.ListN.{length}
-use Rattle.basics.specs.Tests.{_and_, _or_, _implies_, all, count}
+use Rattle.basics.specs.Tests.{_and_, all, count}
 use Rattle.basics.specs.Lists.{word}
 use Rattle.refusals.specs.declared.Refusal.the-variants.{
     TreeSize, NoSuchRule, BadChild, RootNotStart, ChildDiffers, NotOneParent, ValuesTooShort

@@ -3,8 +3,6 @@ use Rattle.bits.proofs.RestLaws.{rest-is}
 use borrow.Author.Needs.{needs}
 use Rattle.bits.proofs.rest.Statement.{statement}
 use Rattle.bits.proofs.rest.Tie as tie
-use Rattle.bits.proofs.rest.Reads as reads
-use Rattle.bits.proofs.rest.Lts as lts
 
 -- src/lib.rt:122:12
 sub-result : tie.Need-sub-result

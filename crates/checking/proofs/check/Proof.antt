@@ -1,6 +1,6 @@
 -- `checking::check` meets its contract: each test that fails is the first that does, since those before it passed. Assumes nothing.
-use Rattle.checking.proofs.WholeLaws.{some-node, few-nodes, root-known, known-all, passed-15, answer-12, answer-13, answer-15, answer-16, answer-17, answer-18, answer-good}
-use Rattle.checking.proofs.TestLaws.{start-room}
+use Rattle.checking.proofs.WholeCheckLaws.{some-node, few-nodes, root-known, known-all, passed-15, answer-12, answer-13, answer-15, answer-16, answer-17, answer-18, answer-good}
+use Rattle.checking.proofs.NodeTestLaws.{start-room}
 use borrow.Author.Tests.{not-true, not-false}
 use borrow.Author.Needs.{needs}
 use Rattle.checking.proofs.check.Statement.{statement}

@@ -1,7 +1,7 @@
 -- `checking::child_fits` meets its contract: a used slot names a node that the first walk found known, so its symbol can be read, and the test is
 -- whether that is the symbol of the slot in the rule.
 -- Assumes nothing.
-use Rattle.checking.proofs.TestLaws.{child-known, child-test}
+use Rattle.checking.proofs.NodeTestLaws.{child-known, child-test}
 use borrow.Author.Needs.{needs}
 use Rattle.checking.proofs.child_fits.Statement.{statement}
 use Rattle.checking.proofs.child_fits.Tie as tie

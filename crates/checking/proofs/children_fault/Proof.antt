@@ -8,9 +8,9 @@ use native.Mathlib.Omega.{arith}
 use borrow.Author.Tests.{not-true, not-false}
 use Rattle.grammar.specs.Verdicts.{each}
 use Rattle.grammar.specs.declared.Verdict.the-variants.{Good, Refused}
-use Rattle.reader.proofs.Laws.{each-none, each-more, each-stop, each-end}
+use Rattle.access.proofs.Laws.{each-none, each-more, each-stop, each-end}
 use Rattle.checking.specs.Walk.{childrenFault}
-use Rattle.checking.proofs.TestLaws.{children-passed, children-refused}
+use Rattle.checking.proofs.NodeTestLaws.{children-passed, children-refused}
 use Rattle.checking.proofs.children_fault.Statement.{statement}
 use Rattle.checking.proofs.children_fault.Tie as tie
 

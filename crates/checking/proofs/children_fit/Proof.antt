@@ -1,6 +1,6 @@
 -- `checking::children_fit` meets its contract: the slots that a rule's right length counts are those that the node uses, and a terminal uses none.
 -- Assumes nothing.
-use Rattle.checking.proofs.TestLaws.{below-of-known, few-rules, length-room, rule-slots, children-rule, children-terminal}
+use Rattle.checking.proofs.NodeTestLaws.{below-of-known, few-rules, length-room, rule-slots, children-rule, children-terminal}
 use borrow.Author.Needs.{needs}
 use Rattle.checking.proofs.children_fit.Statement.{statement}
 use Rattle.checking.proofs.children_fit.Tie as tie

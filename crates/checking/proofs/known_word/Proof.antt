@@ -1,6 +1,6 @@
 -- `checking::known_word` meets its contract: a word below 32,768 is a rule if there are so many, and one above it a terminal if the symbol that it
 -- names is there and is none. Assumes nothing.
-use Rattle.checking.proofs.TestLaws.{rules-room, symbols-room, known-rule, known-terminal, known-nothing}
+use Rattle.checking.proofs.NodeTestLaws.{rules-room, symbols-room, known-rule, known-terminal, known-nothing}
 use borrow.Author.Needs.{needs}
 use Rattle.checking.proofs.known_word.Statement.{statement}
 use Rattle.checking.proofs.known_word.Tie as tie

@@ -8,7 +8,7 @@ use borrow.Author.Tests.{not-true, not-false}
 use Rattle.refusals.specs.declared.Refusal.the-variants.{NotOneParent}
 use Rattle.grammar.specs.Verdicts.{each}
 use Rattle.grammar.specs.declared.Verdict.the-variants.{Good, Refused}
-use Rattle.reader.proofs.Laws.{each-none, each-more, each-stop, each-end}
+use Rattle.access.proofs.Laws.{each-none, each-more, each-stop, each-end}
 use Rattle.checking.specs.Walk.{namedFault}
 use Rattle.checking.proofs.NameLaws.{named-passed, named-refused}
 use Rattle.checking.proofs.names_fault.Statement.{statement}

@@ -1,6 +1,6 @@
 -- `checking::node_fault` meets its contract: 13 is tested first, and only a node whose word is known has slots to count for 14.
 -- Assumes nothing.
-use Rattle.checking.proofs.TestLaws.{known-of, node-good, node-child, node-unknown}
+use Rattle.checking.proofs.NodeTestLaws.{known-of, node-good, node-child, node-unknown}
 use borrow.Author.Needs.{needs}
 use Rattle.checking.proofs.node_fault.Statement.{statement}
 use Rattle.checking.proofs.node_fault.Tie as tie

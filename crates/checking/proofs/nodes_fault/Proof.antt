@@ -7,7 +7,7 @@ use mathlib.Core.Path.{_≡_}
 use Rattle.grammar.specs.Verdicts.{each}
 use Rattle.grammar.specs.declared.Verdict.the-variants.{Good}
 use Rattle.trees.specs.Checking.{nodeFault}
-use Rattle.reader.proofs.Laws.{each-none, each-more, each-stop, each-end}
+use Rattle.access.proofs.Laws.{each-none, each-more, each-stop, each-end}
 use Rattle.checking.proofs.nodes_fault.Statement.{statement}
 use Rattle.checking.proofs.nodes_fault.Tie as tie
 

@@ -4,7 +4,7 @@ use mathlib.Core.Path.{ap}
 use lib.Dec.{eqb}
 use native.Mathlib.Omega.{arith}
 use Rattle.grammar.specs.Table.{kind}
-use Rattle.checking.proofs.TestLaws.{symbol-room}
+use Rattle.checking.proofs.NodeTestLaws.{symbol-room}
 use Rattle.checking.proofs.nonterminal.Statement.{statement}
 use Rattle.checking.proofs.nonterminal.Tie as tie
 

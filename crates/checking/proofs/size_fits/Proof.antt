@@ -1,6 +1,6 @@
 -- `checking::size_fits` meets its contract: each way out is the first of the three tests that fails, or the last test itself.
 -- Assumes nothing.
-use Rattle.checking.proofs.TestLaws.{size-all, size-none, size-part}
+use Rattle.checking.proofs.NodeTestLaws.{size-all, size-none, size-part}
 use Rattle.checking.proofs.size_fits.Statement.{statement}
 use Rattle.checking.proofs.size_fits.Tie as tie
 

@@ -1,6 +1,6 @@
 -- `checking::slot_fits` meets its contract: a used slot is above its node and a node, an unused one is zero; each way out is one of these.
 -- Assumes nothing.
-use Rattle.checking.proofs.TestLaws.{slot-inside, slot-low, slot-unused}
+use Rattle.checking.proofs.NodeTestLaws.{slot-inside, slot-low, slot-unused}
 use borrow.Author.Needs.{needs}
 use Rattle.checking.proofs.slot_fits.Statement.{statement}
 use Rattle.checking.proofs.slot_fits.Tie as tie

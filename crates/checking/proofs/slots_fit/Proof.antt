@@ -7,7 +7,7 @@ use Prim.Native.Nat.{_≤_, _-_}
 use mathlib.Core.Path.{_≡_}
 use mathlib.Core.Bool.{true}
 use Rattle.checking.specs.Walk.{slotTestsTo}
-use Rattle.checking.proofs.TestLaws.{slots-none, slots-more, slots-stop, slots-end}
+use Rattle.checking.proofs.NodeTestLaws.{slots-none, slots-more, slots-stop, slots-end}
 use Rattle.checking.proofs.slots_fit.Statement.{statement}
 use Rattle.checking.proofs.slots_fit.Tie as tie
 

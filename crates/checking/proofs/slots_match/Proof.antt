@@ -7,7 +7,7 @@ use mathlib.Core.Bool.{true}
 use native.Mathlib.Omega.{arith}
 use borrow.Author.Tests.{not-true, not-false}
 use Rattle.checking.specs.Walk.{childTestsTo}
-use Rattle.checking.proofs.TestLaws.{used-slot, children-none, children-more, children-stop, children-end}
+use Rattle.checking.proofs.NodeTestLaws.{used-slot, children-none, children-more, children-stop, children-end}
 use Rattle.checking.proofs.slots_match.Statement.{statement}
 use Rattle.checking.proofs.slots_match.Tie as tie
 

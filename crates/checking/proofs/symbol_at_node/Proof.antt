@@ -1,6 +1,6 @@
 -- `checking::symbol_at_node` meets its contract: a known word below 32,768 is a rule, and its first word is the node's symbol; else the word itself names a terminal.
 -- Assumes nothing.
-use Rattle.checking.proofs.TestLaws.{known-below, left-room, few-rules, symbol-rule, symbol-terminal}
+use Rattle.checking.proofs.NodeTestLaws.{known-below, left-room, few-rules, symbol-rule, symbol-terminal}
 use borrow.Author.Needs.{needs}
 use Rattle.checking.proofs.symbol_at_node.Statement.{statement}
 use Rattle.checking.proofs.symbol_at_node.Tie as tie

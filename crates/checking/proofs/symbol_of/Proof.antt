@@ -1,7 +1,7 @@
 -- `checking::symbol_of` meets its contract: a position on the right is not 0, so its symbol is the word at p + 1 + i. Assumes nothing.
 use native.Mathlib.Omega.{arith}
 use borrow.Author.Needs.{needs}
-use Rattle.reader.proofs.Laws.{symbol-right}
+use Rattle.access.proofs.Laws.{symbol-right}
 use Rattle.checking.proofs.symbol_of.Statement.{statement}
 use Rattle.checking.proofs.symbol_of.Tie as tie
 

@@ -1,7 +1,7 @@
 -- `checking::used_slots` meets its contract: a known word below 32,768 is a rule, and its right length says how many slots are used; a terminal uses none.
 -- Assumes nothing.
 use native.Mathlib.Omega.{arith}
-use Rattle.checking.proofs.TestLaws.{known-below, length-room, few-rules, used-rule, right-seven, used-none}
+use Rattle.checking.proofs.NodeTestLaws.{known-below, length-room, few-rules, used-rule, right-seven, used-none}
 use borrow.Author.Needs.{needs}
 use Rattle.checking.proofs.used_slots.Statement.{statement}
 use Rattle.checking.proofs.used_slots.Tie as tie

@@ -7,11 +7,6 @@ use Rattle.closing.specs.Rows.{arcsAt}
 use Rattle.closing.proofs.GatherLaws.{gather-none, gather-turn, gathered, field-fits}
 use Rattle.closing.proofs.arcs_at.Statement.{statement}
 use Rattle.closing.proofs.arcs_at.Tie as tie
-use Rattle.closing.proofs.arcs_at.Reads as reads
-use Rattle.closing.proofs.arcs_at.Lts as lts
-use Rattle.bits.proofs.field.Reads as field-reads
-use Rattle.bits.proofs.raised.Reads as raised-reads
-use Rattle.bits.proofs.union.Reads as union-reads
 
 abbrev Inv-loop : tie.InvT-loop
 Inv-loop rows base i count arcs₀ a₀ arcs a = (a ≤ count) × (arcs ≡ arcsAt rows base i a)

@@ -5,7 +5,7 @@ use mathlib.Core.Path.{_≡_, _∙_}
 use native.Mathlib.Omega.{arith}
 use borrow.Author.Needs.{needs}
 use Rattle.grammar.specs.Table.{rules}
-use Rattle.grammar.proofs.Accepted.{accepted}
+use Rattle.grammar.proofs.AcceptedTable.{accepted}
 use Rattle.executing.proofs.LocatedLaws.{AllLocated, all-start, offset-is, all-turn, all-finish}
 use Rattle.executing.proofs.function_starts.Statement.{statement}
 use Rattle.executing.proofs.function_starts.Tie as tie

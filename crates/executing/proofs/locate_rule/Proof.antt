@@ -5,7 +5,7 @@ use mathlib.Core.Path.{_≡_}
 use native.Mathlib.Omega.{arith}
 use borrow.Author.Needs.{needs}
 use Rattle.grammar.specs.Table.{functions}
-use Rattle.reader.proofs.Accessors.{rule-fits}
+use Rattle.access.proofs.Accessors.{rule-fits}
 use Rattle.executing.proofs.LocatedLaws.{Locating, locating-start, located-fits, target-word, functions-counted, locating-turn, locating-finish}
 use Rattle.executing.proofs.locate_rule.Statement.{statement}
 use Rattle.executing.proofs.locate_rule.Tie as tie

@@ -1,6 +1,6 @@
 -- Arc k leads from attribute k / 8 to attribute k % 8, which must be one of the first count.
 use borrow.Author.Needs.{needs}
-use Rattle.extending.proofs.OrderLaws.{descends-here, descends-past}
+use Rattle.extending.proofs.DescentLaws.{descends-here, descends-past}
 use Rattle.extending.proofs.descends.Statement.{statement}
 use Rattle.extending.proofs.descends.Tie as tie
 

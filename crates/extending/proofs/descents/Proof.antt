@@ -5,8 +5,8 @@ use mathlib.Core.Path.{_∙_, _≡_}
 use native.Mathlib.Omega.{arith}
 use borrow.Author.Needs.{needs}
 use Rattle.bits.specs.Bit.{collect}
-use Rattle.extending.specs.Order.{descends}
-use Rattle.extending.proofs.OrderLaws.{collect-none, collect-with, collect-over, collect-end}
+use Rattle.extending.specs.Descents.{descends}
+use Rattle.extending.proofs.DescentLaws.{collect-none, collect-with, collect-over, collect-end}
 use Rattle.extending.proofs.descents.Statement.{statement}
 use Rattle.extending.proofs.descents.Tie as tie
 

@@ -4,7 +4,7 @@ use Prim.Native.Nat.{_≤_, _-_}
 use native.Mathlib.Omega.{arith}
 use borrow.Author.Needs.{needs}
 use Rattle.inducing.proofs.InduceLaws.{kept-at}
-use Rattle.inducing.proofs.RuleLaws.{offset-is, ruled, few-rules}
+use Rattle.inducing.proofs.RuleRowLaws.{offset-is, ruled, few-rules}
 use Rattle.extending.proofs.ExtendLaws.{Extending, down-fits, extending-start, extending-turn, extending-finish}
 use Rattle.extending.proofs.extend.Statement.{statement}
 use Rattle.extending.proofs.extend.Tie as tie

@@ -4,8 +4,8 @@ use mathlib.Core.Path.{_≡_}
 use native.Mathlib.Omega.{arith}
 use borrow.Author.Needs.{needs}
 use Rattle.basics.specs.Lists.{tabulate, padded}
-use Rattle.extending.specs.Order.{descentsOf}
-use Rattle.extending.proofs.OrderLaws.{order-start, order-turn, order-end, few-symbols, few-attributes}
+use Rattle.extending.specs.Descents.{descentsOf}
+use Rattle.extending.proofs.DescentLaws.{order-start, order-turn, order-end, few-symbols, few-attributes}
 use Rattle.extending.proofs.order.Statement.{statement}
 use Rattle.extending.proofs.order.Tie as tie
 

@@ -4,7 +4,7 @@ use Prim.Native.Nat.{_≤_, _-_}
 use native.Mathlib.Omega.{arith}
 use borrow.Author.Needs.{needs}
 use Rattle.inducing.proofs.InduceLaws.{Filling, filling-start, filling-turn, filling-finish, kept-at}
-use Rattle.inducing.proofs.RuleLaws.{offset-is, ruled, functions-fit, few-rules}
+use Rattle.inducing.proofs.RuleRowLaws.{offset-is, ruled, functions-fit, few-rules}
 use Rattle.inducing.proofs.fill.Statement.{statement}
 use Rattle.inducing.proofs.fill.Tie as tie
 

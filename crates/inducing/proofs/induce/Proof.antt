@@ -6,7 +6,7 @@ use native.Mathlib.Omega.{arith}
 use borrow.Author.Needs.{needs}
 use Rattle.inducing.specs.Rules.{Standing}
 use Rattle.inducing.proofs.ExactLaws.{standing-start, standing-from, standing-here, standing-turn, induced-state, induced-rows, arcCount, fewer-left}
-use Rattle.inducing.proofs.StateLaws.{cleared-rules}
+use Rattle.inducing.proofs.IdsStateLaws.{cleared-rules}
 use Rattle.inducing.proofs.induce.Statement.{statement}
 use Rattle.inducing.proofs.induce.Tie as tie
 

@@ -5,7 +5,7 @@ use native.Mathlib.Omega.{arith}
 use borrow.Author.Needs.{needs}
 use Rattle.inducing.specs.Rules.{Turned}
 use Rattle.inducing.proofs.InduceLaws.{kept-at, arcs-fit, turned-start, turned-turn, turned-finish}
-use Rattle.inducing.proofs.RuleLaws.{offset-is, ruled, few-rules}
+use Rattle.inducing.proofs.RuleRowLaws.{offset-is, ruled, few-rules}
 use Rattle.inducing.proofs.round.Statement.{statement}
 use Rattle.inducing.proofs.round.Tie as tie
 

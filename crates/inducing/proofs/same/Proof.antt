@@ -2,7 +2,7 @@
 use Prim.Native.Nat.{_≤_, _-_}
 use native.Mathlib.Omega.{arith}
 use borrow.Author.Needs.{needs}
-use Rattle.inducing.proofs.StateLaws.{Agree, agree-more, agree-stop, agree-end}
+use Rattle.inducing.proofs.IdsStateLaws.{Agree, agree-more, agree-stop, agree-end}
 use Rattle.inducing.proofs.same.Statement.{statement}
 use Rattle.inducing.proofs.same.Tie as tie
 

@@ -1,14 +1,7 @@
-use Rattle.writing.proofs.ShownLaws.{typed-there}
+use Rattle.lister.proofs.ShownLaws.{typed-there}
 use borrow.Author.Needs.{needs}
 use Rattle.listing.proofs.main.Statement.{statement}
 use Rattle.listing.proofs.main.Tie as tie
-use Rattle.listing.proofs.main.Reads as reads
-use Rattle.listing.proofs.main.Lts as lts
-use Rattle.io.proofs.large_buffer.Reads as large-buffer-reads
-use Rattle.io.proofs.read_full.Reads as read-full-reads
-use Rattle.io.proofs.write_all.Reads as write-all-reads
-use Rattle.listing.proofs.at_end.Reads as at-end-reads
-use Rattle.writing.proofs.list.Reads as list-reads
 
 -- src/main.rt:11:21
 large-buffer-requires : tie.Need-large-buffer-requires

@@ -3,9 +3,6 @@ use Rattle.placing.proofs.StepLaws.{class-odd, class-even}
 use borrow.Author.Needs.{needs}
 use Rattle.placing.proofs.class_of.Statement.{statement}
 use Rattle.placing.proofs.class_of.Tie as tie
-use Rattle.placing.proofs.class_of.Reads as reads
-use Rattle.placing.proofs.class_of.Lts as lts
-use Rattle.bits.proofs.minus.Reads as minus-reads
 
 minus-requires : tie.Need-minus-requires
 minus-requires c κs = search needs

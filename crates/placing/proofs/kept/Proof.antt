@@ -3,9 +3,6 @@ use Rattle.placing.proofs.TakenLaws.{kept-yes, kept-no}
 use borrow.Author.Needs.{needs}
 use Rattle.placing.proofs.kept.Statement.{statement}
 use Rattle.placing.proofs.kept.Tie as tie
-use Rattle.placing.proofs.kept.Reads as reads
-use Rattle.placing.proofs.kept.Lts as lts
-use Rattle.bits.proofs.with.Reads as with-reads
 
 with-requires : tie.Need-with-requires
 with-requires c κs = search needs

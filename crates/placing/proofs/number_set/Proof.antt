@@ -4,10 +4,6 @@ use Rattle.closing.proofs.RewriteLaws.{taken-less}
 use Rattle.placing.proofs.TakenLaws.{Numbering, numbering-place, numbering-start, numbering-turn, numbering-finish}
 use Rattle.placing.proofs.number_set.Statement.{statement}
 use Rattle.placing.proofs.number_set.Tie as tie
-use Rattle.placing.proofs.number_set.Reads as reads
-use Rattle.placing.proofs.number_set.Lts as lts
-use Rattle.bits.proofs.first.Reads as first-reads
-use Rattle.bits.proofs.without.Reads as without-reads
 
 abbrev Inv-loop : tie.InvT-loop
 Inv-loop sets₀ at taken k left₀ sets left = Numbering sets₀ at taken k sets left

@@ -7,13 +7,6 @@ use Prim.Native.Nat.{_≤_}
 use borrow.Author.Needs.{needs}
 use Rattle.placing.proofs.place_nonterminal.Statement.{statement}
 use Rattle.placing.proofs.place_nonterminal.Tie as tie
-use Rattle.placing.proofs.place_nonterminal.Reads as reads
-use Rattle.placing.proofs.place_nonterminal.Lts as lts
-use Rattle.bits.proofs.below.Reads as below-reads
-use Rattle.placing.proofs.place_symbol.Reads as place-symbol-reads
-use Rattle.reader.proofs.attributes.Reads as attributes-reads
-use Rattle.reader.proofs.mask.Reads as mask-reads
-use Rattle.reader.proofs.nonterminal.Reads as nonterminal-reads
 
 nonterminal-requires : tie.Need-nonterminal-requires
 nonterminal-requires c κs = search needs

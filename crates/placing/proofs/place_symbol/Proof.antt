@@ -4,12 +4,6 @@ use Prim.Native.Nat.{_-_}
 use Rattle.placing.proofs.StepLaws.{Stepping, stepping-start, taken-fits, stepping-turn, stepping-finish}
 use Rattle.placing.proofs.place_symbol.Statement.{statement}
 use Rattle.placing.proofs.place_symbol.Tie as tie
-use Rattle.placing.proofs.place_symbol.Reads as reads
-use Rattle.placing.proofs.place_symbol.Lts as lts
-use Rattle.bits.proofs.minus.Reads as minus-reads
-use Rattle.placing.proofs.class_of.Reads as class-of-reads
-use Rattle.placing.proofs.number_set.Reads as number-set-reads
-use Rattle.placing.proofs.taken_from.Reads as taken-from-reads
 
 abbrev Inv-loop : tie.InvT-loop
 Inv-loop sets₀ at every inherited arcs left₀ k₀ sets left k = Stepping sets₀ at every inherited arcs sets left k

@@ -8,10 +8,6 @@ use Rattle.grammar.specs.Table.{symbols}
 use Rattle.placing.proofs.SetsLaws.{SetsTo, sets-start, sets-turn, sets-finish}
 use Rattle.placing.proofs.sets_of.Statement.{statement}
 use Rattle.placing.proofs.sets_of.Tie as tie
-use Rattle.placing.proofs.sets_of.Reads as reads
-use Rattle.placing.proofs.sets_of.Lts as lts
-use Rattle.placing.proofs.place_nonterminal.Reads as place-nonterminal-reads
-use Rattle.reader.proofs.word.Reads as word-reads
 
 abbrev Inv-loop : tie.InvT-loop
 Inv-loop words ids sets₀ x₀ x-end sets x = (x-end ≡ symbols words) × SetsTo words ids sets x

@@ -1,14 +1,9 @@
 -- `placing::stays` meets its contract. Assumes nothing.
 use Rattle.placing.proofs.TakenLaws.{stays-by}
-use Rattle.placing.specs.Masks.{stays}
+use Rattle.placing.specs.SymbolSets.{stays}
 use borrow.Author.Needs.{needs}
 use Rattle.placing.proofs.stays.Statement.{statement}
 use Rattle.placing.proofs.stays.Tie as tie
-use Rattle.placing.proofs.stays.Reads as reads
-use Rattle.placing.proofs.stays.Lts as lts
-use Rattle.bits.proofs.common.Reads as common-reads
-use Rattle.bits.proofs.field.Reads as field-reads
-use Rattle.bits.proofs.minus.Reads as minus-reads
 
 mul-field : tie.Need-mul-field
 mul-field c = search needs

@@ -4,13 +4,6 @@ use Rattle.placing.proofs.TakenLaws.{Taking, taking-start, candidate-sm
 use Rattle.closing.proofs.RewriteLaws.{taken-less}
 use Rattle.placing.proofs.taken_from.Statement.{statement}
 use Rattle.placing.proofs.taken_from.Tie as tie
-use Rattle.placing.proofs.taken_from.Reads as reads
-use Rattle.placing.proofs.taken_from.Lts as lts
-use Rattle.bits.proofs.common.Reads as common-reads
-use Rattle.bits.proofs.first.Reads as first-reads
-use Rattle.bits.proofs.without.Reads as without-reads
-use Rattle.placing.proofs.kept.Reads as kept-reads
-use Rattle.placing.proofs.stays.Reads as stays-reads
 
 abbrev Inv-loop : tie.InvT-loop
 Inv-loop arcs unplaced class left₀ taken₀ left taken = Taking arcs unplaced class left taken

@@ -1,16 +1,14 @@
--- `printing::magnitude` is safe: i64 has every value of i32 and the negation of one below nought, so each cast keeps its number.
+-- `printing::magnitude` is a value without its sign: i64 has every value of i32 and the negation of one below nought, so each cast keeps its number.
 -- Assumes nothing.
-use borrow.Author.Needs.{needs}
 use native.Mathlib.Omega.{arith}
-use Prim.Native.Nat.{zero, suc, _<_, _^_}
-use mathlib.Core.Path.{_≡_, _∙_, sym, ap, ap₂, subst, subst⁻¹}
+use mathlib.Core.Path.{_≡_, _∙_, sym, ap, subst, subst⁻¹}
 use mathlib.Core.Bool.{Bool, true, false}
 use lib.Dec.{T, ltb→lt}
 use lib.IntN.{ℤ, pos, negsuc, natAbs, _-ℤ_}
 use lib.Signed.{ltZ, nonNeg}
 use mir.Syntax.{w32, w64}
 use mir.Val.{SFits, Fits, toZ, ofZ}
-use mir.Facts.{toZ-ofZ, sfits-widen, sfits-lit, fits-natAbs}
+use mir.Facts.{toZ-ofZ, sfits-widen, fits-natAbs}
 use Rattle.printing.proofs.magnitude.Statement.{statement}
 use Rattle.printing.proofs.magnitude.Tie as tie
 
@@ -54,8 +52,17 @@ cast-result c =
     subst⁻¹ Unsigned (ap (λ (z : ℤ). toZ w64 (ofZ w64 (pos 0 -ℤ z))) (same f) ∙ toZ-ofZ fits)
     (below (c .before .args .v) (tested f (c .if1 .taken)), fits-natAbs tt fits)
 
+-- the negation of one below nought has its magnitude
+negated-same : (z : ℤ) → ltZ z (pos 0) ≡ true → natAbs (pos 0 -ℤ z) ≡ natAbs z
+negated-same (pos n) e = absurd (omega (arith, ltb→lt n 0 (subst T (sym e) tt)))
+negated-same (negsuc n) e = omega arith
+
 returns : tie.Need-returns
-returns c = search needs
+returns c =
+    let f = c .before .fits .v in
+    let t = tested f (c .if1 .taken) in
+    ap natAbs (ap (λ (z : ℤ). toZ w64 (ofZ w64 (pos 0 -ℤ z))) (same f) ∙ toZ-ofZ (negated-fits (c .before .args .v) t f))
+    ∙ negated-same (c .before .args .v) t
 
 cast-result-2 : tie.Need-cast-result-2
 unfolding Unsigned
@@ -64,7 +71,7 @@ cast-result-2 c =
     subst⁻¹ Unsigned (same f) (not-below (c .before .args .v) (tested f (c .if1 .left)), fits-natAbs tt f)
 
 returns-2 : tie.Need-returns-2
-returns-2 c = search needs
+returns-2 c = ap natAbs (same (c .before .fits .v))
 
 pub magnitude-spec : {M : Type 1} → statement M
 magnitude-spec =

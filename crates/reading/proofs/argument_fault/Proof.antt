@@ -1,7 +1,7 @@
 -- `reading::argument_fault` meets its contract: a missing word answers before the test of what it holds. Assumes nothing.
 use borrow.Author.Needs.{needs}
-use Rattle.reader.specs.Places.{argumentFrom}
-use Rattle.reader.proofs.Laws.{stops, passes, unless-of, fits-of}
+use Rattle.access.specs.ByPlace.{argumentFrom}
+use Rattle.access.proofs.Laws.{stops, passes, unless-of, fits-of}
 use Rattle.reading.proofs.argument_fault.Statement.{statement}
 use Rattle.reading.proofs.argument_fault.Tie as tie
 

@@ -1,6 +1,6 @@
 -- `reading::argument_fits` meets its contract: a constant passes, and else the set decides. Assumes nothing.
 use borrow.Author.Needs.{needs}
-use Rattle.reader.proofs.Laws.{or-first, or-second}
+use Rattle.access.proofs.Laws.{or-first, or-second}
 use Rattle.reading.proofs.argument_fits.Statement.{statement}
 use Rattle.reading.proofs.argument_fits.Tie as tie
 

@@ -6,8 +6,8 @@ use lib.Dec.{eqb}
 use borrow.Author.Needs.{needs}
 use Rattle.grammar.specs.Verdicts.{each}
 use Rattle.grammar.specs.declared.Verdict.the-variants.{Good}
-use Rattle.reader.specs.Places.{argumentFrom}
-use Rattle.reader.proofs.Laws.{each-none, each-more, each-stop, each-end, arguments-are}
+use Rattle.access.specs.ByPlace.{argumentFrom}
+use Rattle.access.proofs.Laws.{each-none, each-more, each-stop, each-end, arguments-are}
 use Rattle.reading.proofs.arguments_fault.Statement.{statement}
 use Rattle.reading.proofs.arguments_fault.Tie as tie
 

@@ -1,6 +1,6 @@
 -- `reading::between` meets its contract: the first test decides, or the second does. Assumes nothing.
 use borrow.Author.Tests.{le-leb, lt-leb}
-use Rattle.reader.proofs.Laws.{and-first, and-second}
+use Rattle.access.proofs.Laws.{and-first, and-second}
 use Rattle.reading.proofs.between.Statement.{statement}
 use Rattle.reading.proofs.between.Tie as tie
 

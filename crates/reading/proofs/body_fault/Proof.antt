@@ -2,8 +2,8 @@
 -- so the two sets can be made and the functions be read against them. Assumes nothing.
 use mathlib.Core.Path.{_∙_}
 use borrow.Author.Needs.{needs}
-use Rattle.reader.specs.Places.{bodyFrom}
-use Rattle.reader.proofs.Laws.{stops, passes, ranged-of, leb-of, right-of, count-of, ranged-le}
+use Rattle.access.specs.ByPlace.{bodyFrom}
+use Rattle.access.proofs.Laws.{stops, passes, ranged-of, leb-of, right-of, count-of, ranged-le}
 use Rattle.reading.proofs.RuleLaws.{shaped, handed, handed-none, functions-of}
 use Rattle.reading.proofs.body_fault.Statement.{statement}
 use Rattle.reading.proofs.body_fault.Tie as tie

@@ -1,7 +1,7 @@
 -- `reading::function_fault` meets its contract: the tests stand in the definition's order, 4 before 5, each on the word that was read. Assumes nothing.
 use borrow.Author.Needs.{needs}
-use Rattle.reader.specs.Places.{functionFrom}
-use Rattle.reader.proofs.Laws.{stops, passes, ranged-of, leb-of, unless-of, member-of}
+use Rattle.access.specs.ByPlace.{functionFrom}
+use Rattle.access.proofs.Laws.{stops, passes, ranged-of, leb-of, unless-of, member-of}
 use Rattle.reading.proofs.function_fault.Statement.{statement}
 use Rattle.reading.proofs.function_fault.Tie as tie
 

@@ -4,7 +4,7 @@ use Prim.Native.Nat.{_-_, _≤_}
 use mathlib.Core.Path.{_∙_}
 use native.Mathlib.Omega.{arith}
 use borrow.Author.Needs.{needs}
-use Rattle.reader.proofs.Laws.{refused-good}
+use Rattle.access.proofs.Laws.{refused-good}
 use Rattle.reading.proofs.FunctionLoop.{AtFunction, start, turn, stop, ends, ends-at, leaves-these, target-fits}
 use Rattle.reading.proofs.functions_fault.Statement.{statement}
 use Rattle.reading.proofs.functions_fault.Tie as tie

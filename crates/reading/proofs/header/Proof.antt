@@ -1,7 +1,7 @@
 -- `reading::header` meets its contract: its three range tests stand in the definition's order, each on the word that was read. Assumes nothing.
 use borrow.Author.Needs.{needs}
 use Rattle.grammar.specs.Reading.{header}
-use Rattle.reader.proofs.Laws.{stops, passes, ranged-of, between-of, ltb-of}
+use Rattle.access.proofs.Laws.{stops, passes, ranged-of, between-of, ltb-of}
 use Rattle.reading.proofs.header.Statement.{statement}
 use Rattle.reading.proofs.header.Tie as tie
 

@@ -1,7 +1,7 @@
 -- `reading::left_fault` meets its contract: the range is tested before the class. Assumes nothing.
 use borrow.Author.Needs.{needs}
-use Rattle.reader.specs.Places.{leftFrom}
-use Rattle.reader.proofs.Laws.{stops, passes, ranged-of, ltb-of, unless-of, nonterminal-of}
+use Rattle.access.specs.ByPlace.{leftFrom}
+use Rattle.access.proofs.Laws.{stops, passes, ranged-of, ltb-of, unless-of, nonterminal-of}
 use Rattle.reading.proofs.left_fault.Statement.{statement}
 use Rattle.reading.proofs.left_fault.Tie as tie
 

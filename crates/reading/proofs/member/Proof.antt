@@ -1,6 +1,6 @@
 -- `reading::member` meets its contract: a set of 64 bits has no member from 64 on. Assumes nothing.
 use borrow.Author.Needs.{needs}
-use Rattle.reader.proofs.Laws.{member-past}
+use Rattle.access.proofs.Laws.{member-past}
 use Rattle.reading.proofs.member.Statement.{statement}
 use Rattle.reading.proofs.member.Tie as tie
 

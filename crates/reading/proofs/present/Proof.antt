@@ -1,5 +1,5 @@
 -- `reading::present` meets its contract: the one test of the definition decides. Assumes nothing.
-use Rattle.reader.proofs.Laws.{present-there, present-missing}
+use Rattle.access.proofs.Laws.{present-there, present-missing}
 use Rattle.reading.proofs.present.Statement.{statement}
 use Rattle.reading.proofs.present.Tie as tie
 

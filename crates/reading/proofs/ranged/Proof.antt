@@ -1,7 +1,7 @@
 -- `reading::ranged` meets its contract: a missing word answers first, else the test does. Assumes nothing.
 use borrow.Author.Needs.{needs}
 use Rattle.grammar.specs.Reading.{ranged}
-use Rattle.reader.proofs.Laws.{stops, passes}
+use Rattle.access.proofs.Laws.{stops, passes}
 use Rattle.reading.proofs.ranged.Statement.{statement}
 use Rattle.reading.proofs.ranged.Tie as tie
 

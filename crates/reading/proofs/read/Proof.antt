@@ -6,7 +6,7 @@ use native.Mathlib.Omega.{arith}
 use borrow.Author.Needs.{needs}
 use Rattle.grammar.specs.Reading.{readTable}
 use Rattle.grammar.specs.declared.Verdict.the-variants.{Good}
-use Rattle.reader.proofs.Laws.{stops, passes, each-of}
+use Rattle.access.proofs.Laws.{stops, passes, each-of}
 use Rattle.reading.proofs.RuleLoop.{AtRule, start, turn, stop, rules-end, before-end, over-end, offsets-end, offsets-refused, opening, symbols-formed, few-symbols, few-rules}
 use Rattle.reading.proofs.read.Statement.{statement}
 use Rattle.reading.proofs.read.Tie as tie

@@ -6,8 +6,8 @@ use borrow.Author.Needs.{needs}
 use Rattle.basics.specs.Lists.{word}
 use Rattle.grammar.specs.Verdicts.{each}
 use Rattle.grammar.specs.declared.Verdict.the-variants.{Good}
-use Rattle.reader.specs.Places.{symbolTest}
-use Rattle.reader.proofs.Laws.{each-none, each-more, each-stop, each-end, ranged-of, ltb-of}
+use Rattle.access.specs.ByPlace.{symbolTest}
+use Rattle.access.proofs.Laws.{each-none, each-more, each-stop, each-end, ranged-of, ltb-of}
 use Rattle.reading.proofs.right_fault.Statement.{statement}
 use Rattle.reading.proofs.right_fault.Tie as tie
 

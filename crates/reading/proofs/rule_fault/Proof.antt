@@ -1,8 +1,8 @@
 -- `reading::rule_fault` meets its contract: the left symbol, the rule before, then the body. Assumes nothing.
 use mathlib.Core.Path.{_∙_}
 use borrow.Author.Needs.{needs}
-use Rattle.reader.specs.Places.{ruleFrom}
-use Rattle.reader.proofs.Laws.{stops, passes}
+use Rattle.access.specs.ByPlace.{ruleFrom}
+use Rattle.access.proofs.Laws.{stops, passes}
 use Rattle.reading.proofs.RuleLaws.{left-symbol, handed-none}
 use Rattle.reading.proofs.rule_fault.Statement.{statement}
 use Rattle.reading.proofs.rule_fault.Tie as tie

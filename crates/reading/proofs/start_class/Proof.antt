@@ -1,7 +1,7 @@
 -- `reading::start_class` meets its contract: the class is tested of the symbol that word 2 names. Assumes nothing.
 use borrow.Author.Needs.{needs}
 use Rattle.grammar.specs.Reading.{startClass}
-use Rattle.reader.proofs.Laws.{unless-of, class-of}
+use Rattle.access.proofs.Laws.{unless-of, class-of}
 use Rattle.reading.proofs.start_class.Statement.{statement}
 use Rattle.reading.proofs.start_class.Tie as tie
 

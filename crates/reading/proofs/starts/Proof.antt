@@ -1,6 +1,6 @@
 -- `reading::starts` meets its contract: a terminal fails, and else the mask decides. Assumes nothing.
 use borrow.Author.Needs.{needs}
-use Rattle.reader.proofs.Laws.{and-first, and-second, zero-of}
+use Rattle.access.proofs.Laws.{and-first, and-second, zero-of}
 use Rattle.reading.proofs.starts.Statement.{statement}
 use Rattle.reading.proofs.starts.Tie as tie
 

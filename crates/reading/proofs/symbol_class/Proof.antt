@@ -1,6 +1,6 @@
 -- `reading::symbol_class` meets its contract: a nonterminal passes, and else the mask decides. Assumes nothing.
 use borrow.Author.Needs.{needs}
-use Rattle.reader.proofs.Laws.{or-first, or-second, zero-of}
+use Rattle.access.proofs.Laws.{or-first, or-second, zero-of}
 use Rattle.reading.proofs.symbol_class.Statement.{statement}
 use Rattle.reading.proofs.symbol_class.Tie as tie
 

@@ -4,7 +4,7 @@ use Prim.Native.Nat.{_≤_}
 use native.Mathlib.Omega.{arith}
 use borrow.Author.Needs.{needs}
 use Rattle.grammar.specs.Reading.{symbolFault}
-use Rattle.reader.proofs.Laws.{stops, passes, ranged-of, leb-of, unless-of, mask-of, ranged-le}
+use Rattle.access.proofs.Laws.{stops, passes, ranged-of, leb-of, unless-of, mask-of, ranged-le}
 use Rattle.reading.proofs.symbol_fault.Statement.{statement}
 use Rattle.reading.proofs.symbol_fault.Tie as tie
 

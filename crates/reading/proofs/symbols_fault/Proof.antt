@@ -6,7 +6,7 @@ use borrow.Author.Needs.{needs}
 use Rattle.grammar.specs.Reading.{symbolFault}
 use Rattle.grammar.specs.Verdicts.{each}
 use Rattle.grammar.specs.declared.Verdict.the-variants.{Good}
-use Rattle.reader.proofs.Laws.{each-none, each-more, each-stop, each-end}
+use Rattle.access.proofs.Laws.{each-none, each-more, each-stop, each-end}
 use Rattle.reading.proofs.symbols_fault.Statement.{statement}
 use Rattle.reading.proofs.symbols_fault.Tie as tie
 

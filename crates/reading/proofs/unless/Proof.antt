@@ -1,5 +1,5 @@
 -- `reading::unless` meets its contract: the test decides. Assumes nothing.
-use Rattle.reader.proofs.Laws.{unless-true, unless-false}
+use Rattle.access.proofs.Laws.{unless-true, unless-false}
 use Rattle.reading.proofs.unless.Statement.{statement}
 use Rattle.reading.proofs.unless.Tie as tie
 

@@ -1,26 +1,32 @@
--- `refused_trees::values_changed` is safe: the count never passes the index, which never passes the slice's end. Assumes nothing.
-use Prim.Native.Nat.{_-_, _≤_}
-use mathlib.Core.Path.{_≡_}
-use native.Mathlib.Omega.{arith}
-use lib.ListN.{length}
+-- `refused_trees::values_changed` counts value after value: the count never passes the index, which never passes the slice's end. Assumes nothing.
+use Prim.Native.Nat.{_-_}
+use mathlib.Core.Path.{_≡_, refl, _∙_, ap}
+use mir.Facts.{toZ-ofZ}
+use lib.IntN.{pos}
+use lib.ListN.{length, getD}
 use borrow.Author.Needs.{needs}
+use Rattle.refused_trees.specs.Changed.{Counted, otherValue}
+use Rattle.refused_trees.proofs.ChangedLaws.{count-start, count-with, values-end}
 use Rattle.refused_trees.proofs.values_changed.Statement.{statement}
 use Rattle.refused_trees.proofs.values_changed.Tie as tie
 
 abbrev Inv-loop : tie.InvT-loop
-Inv-loop values count₀ i₀ i-end count i = (i-end ≡ length values) × ((count ≤ i) × (i ≤ i-end))
+Inv-loop values count₀ i₀ i-end count i = (i-end ≡ length values) × Counted (λ j. otherValue (getD values j (pos 0))) i-end count i
 
 abbrev μ-loop : tie.MeasureT-loop
 μ-loop values count₀ i₀ i-end count i = i-end - i
 
 loop-holds : tie.Need-loop-holds Inv-loop μ-loop
-loop-holds c = search needs
+loop-holds c = (search needs, count-start _ _)
 
-mul-one-if : tie.Need-mul-one-if Inv-loop μ-loop
-mul-one-if c = search needs
+mul-other-value : tie.Need-mul-other-value Inv-loop μ-loop
+mul-other-value c = search needs
 
-shared-slice-copy-out-one-if : tie.Need-shared-slice-copy-out-one-if Inv-loop μ-loop
-shared-slice-copy-out-one-if c = search needs
+shared-slice-copy-out-other-value : tie.Need-shared-slice-copy-out-other-value Inv-loop μ-loop
+shared-slice-copy-out-other-value c = search needs
+
+other-value-requires : tie.Need-other-value-requires Inv-loop μ-loop
+other-value-requires c κs = search needs
 
 one-if-requires : tie.Need-one-if-requires Inv-loop μ-loop
 one-if-requires c κs = search needs
@@ -35,10 +41,13 @@ loop-less : tie.Need-loop-less Inv-loop μ-loop
 loop-less c = search needs
 
 loop-again : tie.Need-loop-again Inv-loop μ-loop
-loop-again c = search needs
+loop-again c =
+    let loop = c .before .before .before .before .loop in
+    (refl, count-with (c .one-if .result) (c .before .other-value .result) (loop .inv .1) (search needs) 
+    (c .before .other-value .ensures ∙ ap otherValue (toZ-ofZ (record { sfits = c .before .before .other-value-arg .given }))) (c .one-if .ensures))
 
 returns : tie.Need-returns Inv-loop μ-loop
-returns c = search needs
+returns c = search values-end
 
 pub values-changed-spec : {M : Type 1} → statement M
 values-changed-spec =
@@ -47,8 +56,9 @@ values-changed-spec =
     Inv-loop
     μ-loop
     loop-holds
-    mul-one-if
-    shared-slice-copy-out-one-if
+    mul-other-value
+    shared-slice-copy-out-other-value
+    other-value-requires
     one-if-requires
     add-count
     add-i

@@ -1,6 +1,6 @@
 -- `runner::run` meets its contract: what planning refuses is refused, and where it accepts, what it wrote is a sound plan to run.
 -- Assumes nothing.
-use Rattle.runner.proofs.WholeLaws.{runnable, run-refused, run-ran}
+use Rattle.runner.proofs.WholeRunLaws.{runnable, run-refused, run-ran}
 use borrow.Author.Needs.{needs}
 use Rattle.runner.proofs.run.Statement.{statement}
 use Rattle.runner.proofs.run.Tie as tie

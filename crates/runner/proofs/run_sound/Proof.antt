@@ -1,5 +1,5 @@
 -- `runner::run_sound` meets its contract: a tree that the check refuses leaves the values, and one that it accepts is run. Assumes nothing.
-use Rattle.runner.proofs.WholeLaws.{tree-good, tree-refused, tree-ran}
+use Rattle.runner.proofs.WholeRunLaws.{tree-good, tree-refused, tree-ran}
 use borrow.Author.Needs.{needs}
 use Rattle.runner.proofs.run_sound.Statement.{statement}
 use Rattle.runner.proofs.run_sound.Tie as tie

@@ -1,6 +1,5 @@
 -- `scenarios::every_budget` is safe: the budgets rise to 17. Assumes nothing.
 use Prim.Native.Nat.{_-_, _≤_}
-use native.Mathlib.Omega.{arith}
 use borrow.Author.Needs.{needs}
 use Rattle.scenarios.proofs.every_budget.Statement.{statement}
 use Rattle.scenarios.proofs.every_budget.Tie as tie

@@ -1,6 +1,5 @@
 -- `scenarios::print_node` is safe: node n has eight values, and fewer are printed. Assumes nothing.
 use Prim.Native.Nat.{_-_, _≤_}
-use native.Mathlib.Omega.{arith}
 use borrow.Author.Needs.{needs}
 use Rattle.scenarios.proofs.print_node.Statement.{statement}
 use Rattle.scenarios.proofs.print_node.Tie as tie

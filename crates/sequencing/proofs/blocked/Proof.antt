@@ -4,12 +4,6 @@ use Rattle.sequencing.proofs.CodeLaws.{Blocking, blocking-start, blocki
 use borrow.Author.Needs.{needs}
 use Rattle.sequencing.proofs.blocked.Statement.{statement}
 use Rattle.sequencing.proofs.blocked.Tie as tie
-use Rattle.sequencing.proofs.blocked.Reads as reads
-use Rattle.sequencing.proofs.blocked.Lts as lts
-use Rattle.bits.proofs.first.Reads as first-reads
-use Rattle.bits.proofs.minus.Reads as minus-reads
-use Rattle.bits.proofs.rest.Reads as rest-reads
-use Rattle.bits.proofs.union.Reads as union-reads
 
 abbrev Inv-loop : tie.InvT-loop
 Inv-loop rows base waiting left₀ blocked₀ left blocked = Blocking rows base waiting left blocked

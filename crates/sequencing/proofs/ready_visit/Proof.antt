@@ -5,12 +5,6 @@ use Rattle.sequencing.proofs.CodeLaws.{Searching, searching-start, sear
 use borrow.Author.Needs.{needs}
 use Rattle.sequencing.proofs.ready_visit.Statement.{statement}
 use Rattle.sequencing.proofs.ready_visit.Tie as tie
-use Rattle.sequencing.proofs.ready_visit.Reads as reads
-use Rattle.sequencing.proofs.ready_visit.Lts as lts
-use Rattle.bits.proofs.first.Reads as first-reads
-use Rattle.bits.proofs.rest.Reads as rest-reads
-use Rattle.bits.proofs.single.Reads as single-reads
-use Rattle.sequencing.proofs.visit_ready.Reads as visit-ready-reads
 
 abbrev Inv-loop : tie.InvT-loop
 Inv-loop words p sets visits waiting left₀ left = Searching words sets p visits waiting left

@@ -1,0 +1,59 @@
+-- What callers of the accessors need: from an accepted table and a rule's offset to the views by number.
+-- Assumes nothing.
+use Prim.Native.Nat.{ℕ, suc, _-_, _≤_, _<_}
+use mathlib.Core.Path.{_≡_, sym, _∙_, ap, subst}
+use mathlib.Core.List.{List}
+use native.Mathlib.Omega.{arith}
+use lib.ListN.{length, getD, replicate, List·getD-append}
+use Rattle.basics.specs.Lists.{tabulate, padded}
+use Rattle.basics.proofs.ListLaws.{length-tabulate, getD-tabulate}
+use Rattle.bits.specs.Bit.{collect}
+use Rattle.grammar.specs.declared.Verdict.the-variants.{Good}
+use Rattle.grammar.specs.Table.{symbols, rules, functionAt, ruleAt, rightLength, symbolOf, occurrence, defining}
+use Rattle.grammar.specs.Reading.{readTable}
+use Rattle.grammar.specs.WellFormed.{WellFormed}
+use Rattle.grammar.proofs.AcceptedTable.{accepted}
+use Rattle.grammar.proofs.RuleStarts.{rules-rise, no-longer-table}
+use Rattle.access.specs.Offsets.{offsetsFor}
+use Rattle.access.specs.ByPlace.{symbolFrom, nextFunction, occurrencesAt, definingsAt, Shaped}
+use Rattle.access.proofs.Same.{symbol-same, occurrences-same, definings-same}
+
+-- the function after function k
+pub next-function : (g : List ℕ) (p k f : ℕ) → f ≡ functionAt g p k → nextFunction g f ≡ functionAt g p (suc k)
+unfolding functionAt
+next-function g p k f e = ap (nextFunction g) e
+
+module _ (g : List ℕ) (r p : ℕ) (e : p ≡ ruleAt g r) where
+  pub symbol-at-rule : (i : ℕ) → symbolFrom g p i ≡ symbolOf g r i
+  symbol-at-rule i = ap (λ (q : ℕ). symbolFrom g q i) e ∙ symbol-same g r i
+
+  pub occurrences-at-rule : occurrencesAt g p ≡ collect 64 (λ o. occurrence g r o)
+  occurrences-at-rule = ap (occurrencesAt g) e ∙ occurrences-same g r
+
+  pub definings-at-rule : definingsAt g p ≡ collect 64 (λ o. defining g r o)
+  definings-at-rule = ap (definingsAt g) e ∙ definings-same g r
+
+  -- a rule of an accepted table has what its sets require
+  pub shaped-rule : readTable g ≡ Good → r < rules g → Shaped g p
+  unfolding rightLength
+  shaped-rule good h =
+      let w : WellFormed g = accepted g good in
+      subst (λ (q : ℕ). Shaped g q) (sym e)
+      (record {
+        short = w .rule r h .lengthFits;
+        formed = λ i l.
+            w .symbol (symbolFrom g (ruleAt g r) i)
+            (subst (λ (x : ℕ). x < symbols g) (sym (symbol-same g r i)) (w .rule r h .symbolsFit i l));
+      })
+
+-- the offsets of an accepted table are where its rules start, which is before its end
+pub offset-of : (g : List ℕ) (r : ℕ) → readTable g ≡ Good → r < rules g → getD (offsetsFor g (readTable g)) r 0 ≡ ruleAt g r
+unfolding offsetsFor padded
+offset-of g r good h =
+    ap (λ v. getD (offsetsFor g v) r 0) good
+    ∙ (List·getD-append (tabulate (rules g) (λ n. ruleAt g n)) (replicate (64 - length (tabulate (rules g) (λ n. ruleAt g n))) 0) 0 r
+    (omega (arith, length-tabulate (rules g) (λ n. ruleAt g n)))
+    ∙ getD-tabulate (rules g) (λ n. ruleAt g n) 0 r h)
+
+pub rule-fits : (g : List ℕ) (r : ℕ) → readTable g ≡ Good → r ≤ rules g → ruleAt g r ≤ 25315
+rule-fits g r good h = omega (arith, rules-rise g r (rules g) h, accepted g good .ends, no-longer-table g good)

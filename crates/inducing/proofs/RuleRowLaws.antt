@@ -1,0 +1,136 @@
+-- A rule of an accepted table, found by its offset: it starts where the table says, its symbols and functions fit, and the set of its
+-- occurrences has exactly them. Assumes nothing.
+use Prim.Native.Nat.{ℕ, _+_, _*_, _^_, _≤_, _<_}
+use mathlib.Core.Path.{_≡_, refl, sym, _∙_, ap, subst, subst⁻¹}
+use mathlib.Core.Bool.{Bool}
+use mathlib.Core.List.{List}
+use native.Mathlib.Omega.{arith}
+use lib.Dec.{T, lt→ltb}
+use lib.ListN.{getD, List·getD-append}
+use Rattle.bits.specs.Bit.{hasb}
+use Rattle.bits.proofs.CollectLaws.{collect-lt}
+use Rattle.bits.proofs.MemberLaws.{hasb-collect, hasb-below}
+use Rattle.basics.specs.Lists.{tabulate, padded}
+use Rattle.basics.proofs.ListLaws.{length-tabulate, getD-tabulate}
+use Rattle.grammar.specs.declared.Verdict.the-variants.{Good}
+use Rattle.grammar.specs.Table.{
+    rules, attributes, functionsAt, functions, ruleAt, rightLength, symbolOf, target, operation, argument, arguments, occurrence, ruleCounts
+}
+use Rattle.grammar.specs.Reading.{readTable}
+use Rattle.grammar.specs.WellFormed.{WellFormed, SymbolFormed}
+use Rattle.grammar.proofs.AcceptedTable.{accepted, defining-occurs}
+use Rattle.grammar.proofs.RuleStarts.{rules-rise, no-longer-table}
+use Rattle.relations.specs.Paper.{DP, Stands}
+use Rattle.relations.proofs.Occurrences.{occurs-below, dp-argument, stands-occurs}
+use Rattle.access.specs.Offsets.{offsetsFor}
+use Rattle.access.specs.ByPlace.{occurrencesAt}
+use Rattle.access.proofs.Same.{symbol-same, occurrences-same}
+use Rattle.inducing.specs.Arcs.{argumentsAt, RuleArc, Ruled, FunctionsFit}
+use Rattle.inducing.specs.Rules.{occurrencesOf}
+
+-- the offsets name each rule's first word
+pub offset-is : (g offsets : List ℕ) (r p : ℕ) → offsets ≡ offsetsFor g Good → r < rules g → p ≡ getD offsets r 0 → p ≡ ruleAt g r
+unfolding offsetsFor padded
+offset-is g offsets r p e h q =
+    q
+    ∙ (ap (λ (s : List ℕ). getD s r 0) e
+    ∙ (List·getD-append (tabulate (rules g) (λ r. ruleAt g r)) _ 0 r (omega (arith, length-tabulate (rules g) (λ r. ruleAt g r)))
+    ∙ getD-tabulate (rules g) (λ r. ruleAt g r) 0 r h))
+
+-- the set of a rule's occurrences
+pub among-lt : (g : List ℕ) (r : ℕ) → occurrencesOf g r < 2 ^ 64
+among-lt g r = subst⁻¹ (λ (s : ℕ). s < 2 ^ 64) (occurrences-same g r) (collect-lt 64 (λ o. occurrence g r o))
+
+pub among-small : (g : List ℕ) (r o : ℕ) → T (hasb o (occurrencesOf g r)) → o < 64
+among-small g r o t = hasb-below 64 o (occurrencesOf g r) (among-lt g r) t
+
+pub among-occurs : (g : List ℕ) (r o : ℕ) → T (hasb o (occurrencesOf g r)) → T (occurrence g r o)
+among-occurs g r o t =
+    subst (λ (b : Bool). T b)
+    (ap (λ (s : ℕ). hasb o s) (occurrences-same g r) ∙ hasb-collect 64 o (λ o. occurrence g r o) (among-small g r o t)) t
+
+module _ (g : List ℕ) (good : readTable g ≡ Good) where
+  formed : WellFormed g
+  formed = accepted g good
+
+  pub counts : (r : ℕ) → r < rules g → T (ruleCounts g r)
+  counts r h = lt→ltb r (rules g) h
+
+  pub occurs-among : (r o : ℕ) → r < rules g → T (occurrence g r o) → T (hasb o (occurrencesOf g r))
+  occurs-among r o h t =
+      subst⁻¹ (λ (b : Bool). T b)
+      (ap (λ (s : ℕ). hasb o s) (occurrences-same g r)
+      ∙ hasb-collect 64 o (λ o. occurrence g r o) (occurs-below g formed r o (counts r h) t)) t
+
+  near : (r : ℕ) → r < rules g → ruleAt g r < 65536
+  near r h = omega (arith, rules-rise g r (rules g) (omega arith), formed .ends, no-longer-table g good)
+
+  -- what the steps ask of a rule
+  rule-ruled : (r : ℕ) → r < rules g → Ruled g (ruleAt g r)
+  unfolding rightLength functions
+  rule-ruled r h =
+      let w = formed .rule r h in
+      record {
+          near = near r h;
+          shaped = record {
+              short = w .lengthFits;
+              formed = λ i l.
+                  subst⁻¹ (λ (x : ℕ). SymbolFormed g x) (symbol-same g r i) (formed .symbol (symbolOf g r i) (w .symbolsFit i l))
+          };
+          few = w .functionsFit;
+          symbolFits = λ i l. omega (arith, symbol-same g r i, w .symbolsFit i l, formed .symbolsFit)
+      }
+
+  pub ruled : (r p : ℕ) → r < rules g → p ≡ ruleAt g r → Ruled g p
+  ruled r p h e = subst⁻¹ (λ (q : ℕ). Ruled g q) e (rule-ruled r h)
+
+  -- its functions speak of its occurrences
+  rule-functions : (r : ℕ) → r < rules g → FunctionsFit g (ruleAt g r) (occurrencesOf g r)
+  unfolding functions target argument arguments operation argumentsAt
+  rule-functions r h k l =
+      let w = formed .function r k h l in
+      record {
+          targetFits = occurs-among r (target g r k) h (defining-occurs g r (target g r k) (w .targetDefining));
+          argumentFits = λ j m. occurs-among r (argument g r k j) h (w .argumentOccurs j m)
+      }
+
+  pub functions-fit : (r p among : ℕ) → r < rules g → p ≡ ruleAt g r → among ≡ occurrencesAt g p → FunctionsFit g p among
+  functions-fit r p among h e a =
+      subst⁻¹ (λ (s : ℕ). FunctionsFit g p s) a (subst⁻¹ (λ (q : ℕ). FunctionsFit g q (occurrencesAt g q)) e (rule-functions r h))
+
+  -- DP of a rule is the arcs of its functions
+  pub dp-arc : (r a b : ℕ) → DP g r a b → RuleArc g (ruleAt g r) (functionsAt g (ruleAt g r)) a b
+  unfolding functions target argument arguments operation argumentsAt
+  dp-arc r a b d =
+      record {
+          function = d .function;
+          functionFits = d .functionFits;
+          arc = record { place = d .place; placeFits = d .placeFits; argument = sym (d .argumentIs); target = sym (d .targetIs) }
+      }
+
+  pub arc-dp : (r a b : ℕ) → RuleArc g (ruleAt g r) (functionsAt g (ruleAt g r)) a b → DP g r a b
+  unfolding functions target argument arguments operation argumentsAt
+  arc-dp r a b d =
+      record {
+          function = d .function;
+          functionFits = d .functionFits;
+          targetIs = sym (d .arc .target);
+          place = d .arc .place;
+          placeFits = d .arc .placeFits;
+          argumentIs = sym (d .arc .argument)
+      }
+
+  pub dp-small : (r a b : ℕ) → r < rules g → DP g r a b → a < 64
+  dp-small r a b h d = occurs-below g formed r a (counts r h) (dp-argument g formed r a b (counts r h) d)
+
+  -- position i of a rule has its symbol
+  pub standing : (r i : ℕ) → r < rules g → i ≤ rightLength g r → Stands g r i (symbolOf g r i)
+  standing r i h l = record { counts = counts r h; inside = l; symbolIs = refl }
+
+  pub attribute-among : (r i a : ℕ) → r < rules g → i ≤ rightLength g r → a < attributes g (symbolOf g r i) → T (hasb (8 * i + a) (occurrencesOf g r))
+  attribute-among r i a h l m =
+      occurs-among r (8 * i + a) h (stands-occurs g formed r i (symbolOf g r i) a (standing r i h l) m)
+
+  -- how many rules there are
+  pub few-rules : (n : ℕ) → n ≡ rules g → n ≤ 64
+  few-rules n e = omega (arith, formed .rulesFit)

@@ -1,0 +1,33 @@
+-- A text typed into a lent buffer, as far as there is room, and the lines of a plan as they are read off its words.
+-- Assumes nothing.
+use Prim.Native.Nat.{ℕ, min}
+use mathlib.Core.Path.{_≡_}
+use mathlib.Core.List.{List, _∷_, _++_}
+use lib.ListN.{length, take}
+use Rattle.basics.specs.Lists.{tabulate, blocks}
+use Rattle.grammar.specs.Table.{symbols, rules}
+use Rattle.plans.specs.Buffers.{over}
+use Rattle.plans.specs.Sequences.{sequenceLength, actionAt}
+use Rattle.text.specs.Lines.{line, ruleWord}
+use Rattle.text.specs.Listing.{firstLine, symbolLine}
+
+-- The start of the lent bytes holds the text, or as much of it as there is room for; the others stay. at bytes are typed.
+pub record Shows (lent text out : List ℕ) (at : ℕ) : Type 0 where
+  pub counted : at ≡ min (length lent) (length text)
+  pub shown : out ≡ over (take (length lent) text) lent
+
+-- Whatever is shown before, it is shown with the new bytes at its end afterwards.
+pub record Adds (out : List ℕ) (at : ℕ) (new out′ : List ℕ) (at′ : ℕ) : Type 0 where
+  pub kept : length out′ ≡ length out
+  pub goesOn : (lent text : List ℕ) → Shows lent text out at → Shows lent (text ++ new) out′ at′
+
+-- the actions of rule r in the words of plan p
+unfoldable pub actionsOf : List ℕ → ℕ → List ℕ
+actionsOf p r = tabulate (sequenceLength p r) (λ j. actionAt p r j)
+
+unfoldable pub ruleLineOf : List ℕ → ℕ → List ℕ
+ruleLineOf p r = line ruleWord (r ∷ actionsOf p r)
+
+-- the lines of a plan by its words
+unfoldable pub planLines : List ℕ → List ℕ → List ℕ
+planLines g p = firstLine g ++ (blocks (symbols g) (λ x. symbolLine g p x) ++ blocks (rules g) (λ r. ruleLineOf p r))

@@ -1,0 +1,33 @@
+-- A sound plan's sequences have at most 111 actions, so the total of a tree is at most 111 for each node.
+-- Assumes nothing.
+use Prim.Native.Nat.{ℕ, zero, suc, _+_, _*_, _≤_, _<_}
+use mathlib.Core.Path.{_≡_, refl}
+use mathlib.Core.Bool.{Bool, true, false, cond}
+use mathlib.Core.List.{List}
+use native.Mathlib.Omega.{arith}
+use lib.Dec.{T}
+use Rattle.basics.proofs.TestLaws.{true-T}
+use Rattle.grammar.specs.Limits.{ruleWords}
+use Rattle.trees.specs.Tree.{nodes, ruleOf, appliesRule}
+use Rattle.plans.specs.Sequences.{sequenceLength}
+use Rattle.runs.specs.Totals.{totalUpTo, total}
+use Rattle.runs.specs.Balance.{Given}
+use Rattle.runs.proofs.SequenceCounts.{rule-sound}
+
+-- sequences of at most 111 actions add up to at most 111 a node
+total-most : (p t : List ℕ) (k : ℕ) → ((n : ℕ) → n < k → T (appliesRule t n) → sequenceLength p (ruleOf t n) < ruleWords)
+    → totalUpTo (λ r. sequenceLength p r) t k ≤ 111 * k
+unfolding totalUpTo
+total-most p t zero f = omega arith
+total-most p t (suc k) f = go (appliesRule t k) refl (total-most p t k (λ n h. f n (omega arith)))
+  where
+    go : (b : Bool) → appliesRule t k ≡ b → totalUpTo (λ r. sequenceLength p r) t k ≤ 111 * k
+        → totalUpTo (λ r. sequenceLength p r) t k + cond b (sequenceLength p (ruleOf t k)) 0 ≤ 111 * suc k
+    go true e h = omega (arith, f k (omega arith) (true-T _ e))
+    go false e h = omega arith
+
+-- the total of a sound plan is at most 111 actions a node
+pub total-bound : {g p t : List ℕ} {l : ℕ} → Given g p t l → total p t ≤ 111 * nodes t
+unfolding total
+total-bound {g} {p} {t} given =
+    total-most p t (nodes t) (λ n h a. rule-sound (given .table) (given .sound) (ruleOf t n) (given .tree .ruleKnown n h a) .fits)
