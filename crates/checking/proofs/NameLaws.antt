@@ -3,17 +3,17 @@
 use Prim.Native.Nat.{ℕ, zero, suc, _+_, _*_, _-_, _/_, _%_, _≤_, _<_}
 use mathlib.Core.Path.{_≡_, refl, sym, _∙_, ap, ap₂, subst, subst⁻¹}
 use mathlib.Core.Logic.{⊎-elim}
-use mathlib.Core.Bool.{Bool, true, false, cond, not}
+use mathlib.Core.Bool.{Bool, true, false, cond}
 use mathlib.Core.List.{List}
 use native.Mathlib.Omega.{arith}
 use native.Mathlib.Numerals.{add-one}
-use lib.Dec.{T, ltb, leb, eqb, le→leb}
+use lib.Dec.{T, leb, eqb, le→leb}
 use lib.ListN.{length, getD, set, length-set, replicate, length-replicate, getD-replicate, List·getD-eq-default}
 use lib.Seq.{getD-set-same, getD-set-other}
 use borrow.Author.Tests.{lt-leb, eq-eqb, ne-eqb}
-use Rattle.basics.specs.Tests.{_and_, count}
+use Rattle.basics.specs.Tests.{count}
 use Rattle.basics.specs.Lists.{word}
-use Rattle.basics.proofs.TestLaws.{and-passed, and-failed, true-T, false-T, T-true, same-or-not, below-or-not, count-le}
+use Rattle.basics.proofs.TestLaws.{and-passed, and-failed, false-T, same-or-not, below-or-not, count-le}
 use Rattle.trees.specs.Tree.{nodes, child, usedSlots}
 use Rattle.trees.specs.Checking.{knownWord, namesNode, onceChild}
 use Rattle.refusals.specs.declared.Refusal.the-variants.{NotOneParent}
@@ -197,6 +197,7 @@ pub counted-naming : (g t named : List ℕ) (n used : ℕ) → CountedTo g t nam
 counted-naming g t named n used w h e l =
     record {
         node = omega (arith, w .known .few);
+        there = h;
         short = l;
         low = λ m.
             ⊎-elim (λ b. omega (arith, w .names .counts m b, count-le (8 * n) (λ k. namesNode g t m k)))
@@ -227,8 +228,9 @@ pub counted-finish : (g t named : List ℕ) (n k : ℕ) → CountedTo g t named 
 counted-finish g t named n k w e h =
     let q : n ≡ k = omega (arith, w .done) in subst (λ (x : ℕ). Names g t x named) q (w .names)
 
-pub counted-known : (g t named : List ℕ) (n : ℕ) → CountedTo g t named n → n < nodes t → T (knownWord g t n) × (n < 1024)
-counted-known g t named n w h = (w .known .known n h, omega (arith, w .known .few))
+pub counted-known : (g t named : List ℕ) (n : ℕ) → CountedTo g t named n → n < nodes t
+    → T (knownWord g t n) × ((n < 1024) × (n < nodes t))
+counted-known g t named n w h = (w .known .known n h, (omega (arith, w .known .few), h))
 
 -- verdicts that are the same one by one are the same in a row
 each-alike : (n : ℕ) (f h : ℕ → Verdict) → ((k : ℕ) → k < n → f k ≡ h k) → each n f ≡ each n h

@@ -1,32 +1,33 @@
 -- The tests of a tree as the code makes them, one way through each.
 -- Assumes nothing.
-use Prim.Native.Nat.{ℕ, zero, suc, _+_, _*_, _-_, _/_, _%_, _≤_, _<_}
+use Prim.Native.Nat.{ℕ, suc, _+_, _*_, _-_, _/_, _%_, _≤_, _<_}
 use mathlib.Core.Path.{_≡_, refl, sym, _∙_, ap, ap₂, subst, subst⁻¹}
 use mathlib.Core.Logic.{⊎-elim}
-use mathlib.Core.Bool.{Bool, true, false, cond, not}
+use mathlib.Core.Bool.{Bool, true, false, not}
 use mathlib.Core.List.{List}
 use native.Mathlib.Omega.{arith}
 use lib.Dec.{T, ltb, leb, eqb, lt→ltb, le→leb, ltb→lt, not-T, T-not}
 use lib.ListN.{length, getD}
-use borrow.Author.Tests.{lt-ltb, le-ltb, le-leb, lt-leb, ne-eqb}
-use Rattle.basics.specs.Tests.{_and_, all}
+use borrow.Author.Tests.{le-ltb, lt-leb, ne-eqb}
+use Rattle.basics.specs.Tests.{all}
 use Rattle.basics.specs.Lists.{word}
 use Rattle.basics.proofs.TestLaws.{and-passed, and-failed, chosen, passed-over, true-T, false-T, eq-T, T-true, T-false, all-at, all-intro, below-suc}
 use Rattle.refusals.specs.declared.Refusal.the-variants.{NoSuchRule, BadChild, ChildDiffers}
-use Rattle.grammar.specs.declared.Verdict.{Verdict}
 use Rattle.grammar.specs.declared.Verdict.the-variants.{Good, Refused}
-use Rattle.grammar.specs.Verdicts.{_then_, unless}
+use Rattle.grammar.specs.Verdicts.{unless}
 use Rattle.grammar.proofs.VerdictLaws.{then-good, unless-good}
 use Rattle.access.proofs.Laws.{stops, passes, unless-true, unless-false}
 use Rattle.grammar.specs.Table.{symbols, rules, nonterminal, lengthAt, ruleAt, rightLength, symbolOf}
 use Rattle.grammar.specs.Reading.{readTable}
+use Rattle.grammar.specs.WellFormed.{WellFormed}
 use Rattle.grammar.proofs.AcceptedTable.{accepted}
+use Rattle.grammar.proofs.RuleStarts.{rule-step, rules-rise}
 use Rattle.access.specs.Offsets.{offsetsFor}
 use Rattle.access.specs.ByPlace.{symbolFrom}
-use Rattle.access.proofs.Accessors.{offset-of, rule-fits, symbol-at-rule}
+use Rattle.access.proofs.Accessors.{offset-of, symbol-at-rule}
 use Rattle.trees.specs.Tree.{nodes, ruleOf, appliesRule, child, usedSlots, symbolAtNode, terminalMark}
 use Rattle.trees.specs.Checking.{sizeFits, knownWord, slotFits, slotsFit, nodeFault, childrenFit}
-use Rattle.checking.specs.Walk.{Ready, Known, UsedSlot, AllSlots, childrenFault, onceFault, slotTest, slotTestsTo, childTest, childTestsTo}
+use Rattle.checking.specs.Walk.{Ready, Known, UsedSlot, AllSlots, childrenFault, slotTest, slotTestsTo, childTest, childTestsTo}
 
 -- 12
 pub size-all : (t : List ℕ) → length t % 8 ≡ 0 → 1 ≤ length t / 8 → leb (length t / 8) 1024 ≡ sizeFits t
@@ -40,6 +41,28 @@ size-none t e h = sym (and-passed _ _ (eq-T (length t % 8) 0 e) ∙ and-failed _
 pub size-part : (t : List ℕ) → (length t % 8 ≡ 0 → ⊥) → false ≡ sizeFits t
 unfolding sizeFits
 size-part t n = sym (and-failed _ _ (false-T _ (ne-eqb (length t % 8) 0 n)))
+
+-- An accepted table has the words that are looked at: its first three, those of its symbols, and those of its rules up to the number of functions.
+module _ (g : List ℕ) (good : readTable g ≡ Good) where
+  formed : WellFormed g
+  formed = accepted g good
+
+  pub symbol-room : (x : ℕ) → x < symbols g → 3 + 3 * x < length g
+  unfolding ruleAt
+  symbol-room x h = omega (arith, formed .ends, rules-rise g 0 (rules g) (omega arith))
+
+  pub start-room : 2 < length g
+  start-room = omega (arith, symbol-room 0 (formed .someSymbols))
+
+  pub rules-room : 1 < length g
+  rules-room = omega (arith, start-room)
+
+  pub symbols-room : 0 < length g
+  symbols-room = omega (arith, start-room)
+
+  pub rule-room : (r : ℕ) → r < rules g → ruleAt g r + 2 + lengthAt g (ruleAt g r) < length g
+  unfolding rightLength
+  rule-room r h = omega (arith, formed .ends, rule-step g r, rules-rise g (suc r) (rules g) h)
 
 -- 13
 pub known-rule : (g t : List ℕ) (n r m : ℕ) → r ≡ getD t (8 * n) 0 → r < 32768 → m ≡ getD g 1 0 → ltb r m ≡ knownWord g t n
@@ -74,19 +97,30 @@ pub offset-is : (g offsets : List ℕ) (r : ℕ) → Ready g offsets → r < rul
 offset-is g offsets r w h =
     ap (λ (o : List ℕ). getD o r 0) (w .offsetsAre ∙ ap (offsetsFor g) (sym (w .good))) ∙ offset-of g r (w .good) h
 
-pub offset-fits : (g offsets : List ℕ) (r : ℕ) → Ready g offsets → r < rules g → getD offsets r 0 < 65536
-offset-fits g offsets r w h = omega (arith, offset-is g offsets r w h, rule-fits g r (w .good) (omega arith))
+-- the left symbol and the right length of a rule that the offsets name
+pub length-room : (g offsets : List ℕ) (r p : ℕ) → Ready g offsets → r < rules g → p ≡ getD offsets r 0 → p + 1 < length g
+length-room g offsets r p w h e = omega (arith, offset-is g offsets r w h, rule-room g (w .good) r h)
+
+pub left-room : (g offsets : List ℕ) (r p : ℕ) → Ready g offsets → r < rules g → p ≡ getD offsets r 0 → p < length g
+left-room g offsets r p w h e = omega (arith, length-room g offsets r p w h e)
 
 pub few-rules : (g offsets : List ℕ) (r : ℕ) → Ready g offsets → r < rules g → r < 64
 few-rules g offsets r w h = omega (arith, accepted g (w .good) .rulesFit)
 
-pub used-rule : (g offsets t : List ℕ) (n r v : ℕ) → Ready g offsets → r ≡ getD t (8 * n) 0 → r < 32768 → r < rules g
-    → v ≡ lengthAt g (getD offsets r 0) → (v ≡ usedSlots g t n) × (v ≤ 7)
-unfolding usedSlots rightLength
-used-rule g offsets t n r v w e h l f =
-    let q : v ≡ rightLength g r = f ∙ ap (lengthAt g) (offset-is g offsets r w l) in
-    (q ∙ (ap (rightLength g) e ∙ sym (chosen (appliesRule t n) _ 0 (lt→ltb (ruleOf t n) 32768 (subst (λ (x : ℕ). x < 32768) e h)))),
-    subst⁻¹ (λ (x : ℕ). x ≤ 7) q (accepted g (w .good) .rule r l .lengthFits))
+right-length-is : (g offsets : List ℕ) (r p v : ℕ) → Ready g offsets → r < rules g → p ≡ getD offsets r 0 → v ≡ lengthAt g p → v ≡ rightLength g r
+unfolding rightLength
+right-length-is g offsets r p v w l s f = f ∙ ap (lengthAt g) (s ∙ offset-is g offsets r w l)
+
+pub used-rule : (g offsets t : List ℕ) (n r p v : ℕ) → Ready g offsets → r ≡ getD t (8 * n) 0 → r < 32768 → r < rules g
+    → p ≡ getD offsets r 0 → v ≡ lengthAt g p → v ≡ usedSlots g t n
+unfolding usedSlots
+used-rule g offsets t n r p v w e h l s f =
+    right-length-is g offsets r p v w l s f
+    ∙ (ap (rightLength g) e ∙ sym (chosen (appliesRule t n) _ 0 (lt→ltb (ruleOf t n) 32768 (subst (λ (x : ℕ). x < 32768) e h))))
+
+pub right-seven : (g offsets : List ℕ) (r p v : ℕ) → Ready g offsets → r < rules g → p ≡ getD offsets r 0 → v ≡ lengthAt g p → v ≤ 7
+right-seven g offsets r p v w l s f =
+    omega (arith, right-length-is g offsets r p v w l s f, accepted g (w .good) .rule r l .lengthFits)
 
 pub used-none : (g t : List ℕ) (n r : ℕ) → r ≡ getD t (8 * n) 0 → 32768 ≤ r → 0 ≡ usedSlots g t n
 unfolding usedSlots
@@ -145,7 +179,8 @@ slots-end t n used i e h l = let q : i ≡ 7 = omega arith in sym (subst (λ (x 
 pub used-slot : (g t : List ℕ) (n p used i : ℕ) → AllSlots g t n p used → i < used → UsedSlot g t n p (i + 1)
 used-slot g t n p used i w l =
     record {
-        node = w .node; first = omega arith; last = omega (arith, w .usedIs); short = omega (arith, w .short); rule = w .rule; near = w .near
+        node = w .node; first = omega arith; last = omega (arith, w .usedIs); short = omega (arith, w .short); rule = w .rule;
+        inTable = omega (arith, w .inTable)
     }
 
 pub children-none : (g t : List ℕ) (n : ℕ) → childTestsTo g t n 0 ≡ true
@@ -169,16 +204,18 @@ pub below-of-known : (g t : List ℕ) (n r : ℕ) → Known g t → n < nodes t 
 below-of-known g t n r k h e l = known-below g t n r (k .known n h) e l
 
 -- 16 at a node
-pub rule-slots : (g offsets t : List ℕ) (n r p v : ℕ) → Ready g offsets → n < nodes t → r ≡ getD t (8 * n) 0 → r < 32768 → r < rules g
+pub rule-slots : (g offsets t : List ℕ) (n r p v : ℕ) → Ready g offsets → Known g t → n < nodes t → r ≡ getD t (8 * n) 0 → r < 32768
     → p ≡ getD offsets r 0 → v ≡ lengthAt g p → AllSlots g t n p v
-rule-slots g offsets t n r p v w h e l m f q =
-    let u = used-rule g offsets t n r v w e l m (q ∙ ap (lengthAt g) f) in
+rule-slots g offsets t n r p v w k h e l f q =
+    let m : r < rules g = below-of-known g t n r k h e l in
     record {
         node = h;
-        usedIs = u .0;
-        short = u .1;
+        usedIs = used-rule g offsets t n r p v w e l m f q;
+        short = right-seven g offsets r p v w m f q;
         rule = f ∙ (offset-is g offsets r w m ∙ ap (ruleAt g) e);
-        near = subst⁻¹ (λ (x : ℕ). x < 65536) f (offset-fits g offsets r w m)
+        inTable =
+            let s : p ≡ ruleAt g r = f ∙ offset-is g offsets r w m in
+            omega (arith, rule-room g (w .good) r m, s, q ∙ ap (lengthAt g) s)
     }
 
 pub children-rule : (g t : List ℕ) (n p v : ℕ) (u : Bool) → AllSlots g t n p v → u ≡ childTestsTo g t n v → u ≡ childrenFit g t n
@@ -224,12 +261,12 @@ pub known-of : (g t : List ℕ) (n : ℕ) (u : Bool) → u ≡ knownWord g t n �
 known-of g t n u e f = true-T _ (sym e ∙ f)
 
 -- the symbol of a known node
-pub symbol-rule : (g offsets t : List ℕ) (n r v : ℕ) → Ready g offsets → r ≡ getD t (8 * n) 0 → r < 32768 → r < rules g
-    → v ≡ getD g (getD offsets r 0) 0 → v ≡ symbolAtNode g t n
+pub symbol-rule : (g offsets t : List ℕ) (n r p v : ℕ) → Ready g offsets → r ≡ getD t (8 * n) 0 → r < 32768 → r < rules g
+    → p ≡ getD offsets r 0 → v ≡ getD g p 0 → v ≡ symbolAtNode g t n
 unfolding symbolAtNode symbolOf
-symbol-rule g offsets t n r v w e h l f =
+symbol-rule g offsets t n r p v w e h l s f =
     f
-    ∙ (ap (λ (p : ℕ). word g p) (offset-is g offsets r w l)
+    ∙ (ap (word g) (s ∙ offset-is g offsets r w l)
     ∙ (ap (λ (x : ℕ). symbolOf g x 0) e ∙ sym (chosen (appliesRule t n) _ _ (lt→ltb (ruleOf t n) 32768 (subst (λ (x : ℕ). x < 32768) e h)))))
 
 pub symbol-terminal : (g t : List ℕ) (n r : ℕ) → r ≡ getD t (8 * n) 0 → 32768 ≤ r → r - 32768 ≡ symbolAtNode g t n
@@ -238,10 +275,11 @@ symbol-terminal g t n r e h =
     ap (λ (x : ℕ). x - 32768) e ∙ sym (passed-over (appliesRule t n) _ _ (false-T _ (le-ltb (ruleOf t n) 32768 (subst (λ (x : ℕ). 32768 ≤ x) e h))))
 
 -- 16 at one slot
-pub child-known : (g t : List ℕ) (n p i c : ℕ) → Known g t → UsedSlot g t n p i → c ≡ getD t (8 * n + i) 0 → T (knownWord g t c) × (c < 1024)
+pub child-known : (g t : List ℕ) (n p i c : ℕ) → Known g t → UsedSlot g t n p i → c ≡ getD t (8 * n + i) 0
+    → T (knownWord g t c) × ((c < 1024) × (c < nodes t))
 child-known g t n p i c k u e =
     let l : c < nodes t = subst⁻¹ (λ (x : ℕ). x < nodes t) e (k .inside n i (u .node) (u .first) (u .last)) in
-    (k .known c l, omega (arith, k .few))
+    (k .known c l, (omega (arith, k .few), l))
 
 pub child-test : (g t : List ℕ) (n p i c v x : ℕ) → UsedSlot g t n p i → c ≡ getD t (8 * n + i) 0 → v ≡ symbolAtNode g t c → x ≡ symbolFrom g p i
     → eqb v x ≡ childTest g t n i

@@ -1,16 +1,15 @@
 -- The whole check: what a passed walk shows for the next, and that each answer is the verdict of the chain.
 -- Assumes nothing.
-use Prim.Native.Nat.{ℕ, zero, suc, _+_, _*_, _-_, _/_, _≤_, _<_}
+use Prim.Native.Nat.{ℕ, suc, _*_, _-_, _≤_, _<_}
 use mathlib.Core.Path.{_≡_, refl, sym, _∙_, ap, subst, subst⁻¹}
 use mathlib.Core.Logic.{⊎-elim}
 use mathlib.Core.Bool.{Bool, true, false}
 use mathlib.Core.List.{List}
 use native.Mathlib.Omega.{arith}
-use lib.Dec.{T, leb, ltb, eqb, leb→le, le→leb, ltb→lt}
-use lib.ListN.{length, getD}
+use lib.Dec.{T, leb, leb→le, le→leb, ltb→lt}
+use lib.ListN.{getD}
 use borrow.Author.Tests.{le-leb, lt-leb, eq-eqb, ne-eqb}
-use Rattle.basics.specs.Tests.{_and_, all}
-use Rattle.basics.proofs.TestLaws.{and-left, and-right, true-T, false-T, chosen, passed-over, tested, all-at}
+use Rattle.basics.proofs.TestLaws.{and-left, and-right, true-T, chosen, passed-over, tested, all-at}
 use Rattle.refusals.specs.declared.Refusal.{Refusal}
 use Rattle.refusals.specs.declared.Refusal.the-variants.{
     TreeSize, NoSuchRule, BadChild, RootNotStart, ChildDiffers, NotOneParent, ValuesTooShort
@@ -53,7 +52,7 @@ size-shows t u e f =
     let t₁ = and-right _ _ (true-T (sizeFits t) (sym e ∙ f)) in
     (leb→le 1 (nodes t) (and-left _ _ t₁), leb→le (nodes t) mostNodes (and-right _ _ t₁))
 
-some-node : (t : List ℕ) (u : Bool) → u ≡ sizeFits t → u ≡ true → 1 ≤ nodes t
+pub some-node : (t : List ℕ) (u : Bool) → u ≡ sizeFits t → u ≡ true → 1 ≤ nodes t
 some-node t u e f = size-shows t u e f .0
 
 pub few-nodes : (t : List ℕ) (u : Bool) → u ≡ sizeFits t → u ≡ true → nodes t ≤ 1024

@@ -16,7 +16,7 @@ use Rattle.grammar.specs.Reading.{readTable}
 use Rattle.access.specs.Offsets.{offsetsFor}
 use Rattle.grammar.specs.Table.{ruleAt, symbolOf}
 use Rattle.trees.specs.Tree.{nodes, ruleOf, child, usedSlots, symbolAtNode}
-use Rattle.trees.specs.Checking.{knownWord, childrenFit, onceChild, namesNode}
+use Rattle.trees.specs.Checking.{knownWord, childrenFit, namesNode}
 
 -- the grammar was accepted, and the offsets are those of its rules
 pub record Ready (g offsets : List ℕ) : Type 0 where
@@ -47,7 +47,7 @@ pub record UsedSlot (g t : List ℕ) (n p i : ℕ) : Type 0 where
   pub last : i ≤ usedSlots g t n
   pub short : i ≤ 7
   pub rule : p ≡ ruleAt g (ruleOf t n)
-  pub near : p < 65536
+  pub inTable : p + 1 + i < length g
 
 -- 16 at slot i
 unfoldable pub childTest : List ℕ → List ℕ → ℕ → ℕ → Bool
@@ -63,14 +63,11 @@ pub record AllSlots (g t : List ℕ) (n p used : ℕ) : Type 0 where
   pub usedIs : used ≡ usedSlots g t n
   pub short : used ≤ 7
   pub rule : p ≡ ruleAt g (ruleOf t n)
-  pub near : p < 65536
+  pub inTable : p + 1 + used < length g
 
--- 16 at node n, 17 at node n
+-- 16 at node n
 unfoldable pub childrenFault : List ℕ → List ℕ → ℕ → Verdict
 childrenFault g t n = unless (childrenFit g t n) (ChildDiffers n)
-
-unfoldable pub onceFault : List ℕ → List ℕ → ℕ → Verdict
-onceFault g t n = unless (onceChild g t n) (NotOneParent n)
 
 -- how many of the first k slots of node n name node m
 unfoldable pub slotNames : List ℕ → ℕ → ℕ → ℕ → ℕ
@@ -79,6 +76,7 @@ slotNames t n m k = count k (λ i. eqb (child t n (suc i)) m)
 -- the counts have room for the slots of node n, whose used slots name nodes that are counted
 pub record Naming (named t : List ℕ) (n used : ℕ) : Type 0 where
   pub node : n < 1024
+  pub there : n < nodes t
   pub short : used ≤ 7
   pub low : (m : ℕ) → word named m ≤ 8 * n
   pub inside : (i : ℕ) → i < used → child t n (suc i) < length named

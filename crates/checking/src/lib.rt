@@ -6,16 +6,59 @@ use refusals::Refusal;
 ghost use mathlib.Core.Path.{_≡_};
 ghost use Prim.Native.Nat.{ℕ, _+_, _*_, _≤_, _<_};
 ghost use lib.Dec.{T};
+ghost use lib.ListN.{length, getD};
 ghost use Rattle.basics.specs.Lists.{word};
 ghost use Rattle.grammar.specs.declared.Verdict.the-variants.{Good};
 ghost use Rattle.grammar.specs.Verdicts.{each, unless};
 ghost use Rattle.grammar.specs.Reading.{readTable};
 ghost use Rattle.grammar.specs.Table as table;
 ghost use Rattle.access.specs.Offsets.{offsetsFor};
+ghost use Rattle.access.specs.ByPlace as places;
 ghost use Rattle.refusals.specs.declared.Refusal.the-variants as refusal;
 ghost use Rattle.trees.specs.Tree as tree;
 ghost use Rattle.trees.specs.Checking as check;
 ghost use Rattle.checking.specs.Walk as walk;
+
+// A word as an index.
+fn wide(x: u16) -> usize
+    ensures { λ r. ⌜ (r ≡ x) × (r < 65536) ⌝ }
+{
+    x as usize
+}
+
+// The word at a place that is there: the grammar and the tree are long enough, so the walks test no length again.
+fn word(words: &[u16], p: usize) -> usize
+    requires { ⌜ p < length (now words) ⌝ }
+    ensures { λ r. ⌜ r ≡ getD (now (words .entry)) p 0 ⌝ }
+    ensures { λ r. ⌜ r < 65536 ⌝ }
+{
+    wide(words[p])
+}
+
+// Symbol x of an accepted grammar is a nonterminal.
+fn nonterminal(words: &[u16], x: usize) -> bool
+    requires { ⌜ (readTable (now words) ≡ Good) × (x < table.symbols (now words)) ⌝ }
+    ensures { λ r. ⌜ r ≡ table.nonterminal (now (words .entry)) x ⌝ }
+{
+    word(words, 3 + 3 * x) == 0
+}
+
+// The rule at word p: its right length, and its symbol at a position on the right.
+fn right_length(words: &[u16], p: usize) -> usize
+    requires { ⌜ p + 1 < length (now words) ⌝ }
+    ensures { λ r. ⌜ r ≡ table.lengthAt (now (words .entry)) p ⌝ }
+    ensures { λ r. ⌜ r < 65536 ⌝ }
+{
+    word(words, p + 1)
+}
+
+fn symbol_of(words: &[u16], p: usize, i: usize) -> usize
+    requires { ⌜ (1 ≤ i) × (p + 1 + i < length (now words)) ⌝ }
+    ensures { λ r. ⌜ r ≡ places.symbolFrom (now (words .entry)) p i ⌝ }
+    ensures { λ r. ⌜ r < 65536 ⌝ }
+{
+    word(words, p + 1 + i)
+}
 
 // 12: whole nodes, at least one, at most 1,024.
 fn size_fits(t: &[u16]) -> bool
@@ -32,16 +75,17 @@ fn size_fits(t: &[u16]) -> bool
 
 // 13: the first word of node n is a rule or a terminal.
 fn known_word(words: &[u16], t: &[u16], n: usize) -> bool
-    requires { ⌜ n < 1024 ⌝ }
+    requires { ⌜ readTable (now words) ≡ Good ⌝ }
+    requires { ⌜ (n < 1024) × (n < tree.nodes (now t)) ⌝ }
     ensures { λ r. ⌜ r ≡ check.knownWord (now (words .entry)) (now (t .entry)) n ⌝ }
 {
-    let r = access::word(t, 8 * n);
+    let r = word(t, 8 * n);
     if r < 32768 {
-        return r < access::word(words, 1);
+        return r < word(words, 1);
     }
     let x = r - 32768;
-    if x < access::word(words, 0) {
-        return !access::nonterminal(words, x);
+    if x < word(words, 0) {
+        return !nonterminal(words, x);
     }
     false
 }
@@ -50,23 +94,23 @@ fn known_word(words: &[u16], t: &[u16], n: usize) -> bool
 fn used_slots(words: &[u16], offsets: &[u16; 64], t: &[u16], n: usize) -> usize
     requires { ⌜ walk.Ready (now words) (now offsets) ⌝ }
     requires { ⌜ T (check.knownWord (now words) (now t) n) ⌝ }
-    requires { ⌜ n < 1024 ⌝ }
+    requires { ⌜ (n < 1024) × (n < tree.nodes (now t)) ⌝ }
     ensures { λ r. ⌜ r ≡ tree.usedSlots (now (words .entry)) (now (t .entry)) n ⌝ }
     ensures { λ r. ⌜ r ≤ 7 ⌝ }
 {
-    let r = access::word(t, 8 * n);
+    let r = word(t, 8 * n);
     if r < 32768 {
-        return access::right_length(words, offsets[r] as usize);
+        return right_length(words, wide(offsets[r]));
     }
     0
 }
 
 // 14: slot i of node n names a node above it, or nothing where it is not used.
 fn slot_fits(t: &[u16], n: usize, i: usize, used: usize) -> bool
-    requires { ⌜ (n < 1024) × (i < 8) ⌝ }
+    requires { ⌜ (n < 1024) × ((n < tree.nodes (now t)) × (i < 8)) ⌝ }
     ensures { λ r. ⌜ r ≡ walk.slotTest (now (t .entry)) n i used ⌝ }
 {
-    let child = access::word(t, 8 * n + i);
+    let child = word(t, 8 * n + i);
     if i <= used {
         if n < child {
             return child < t.len() / 8;
@@ -78,7 +122,7 @@ fn slot_fits(t: &[u16], n: usize, i: usize, used: usize) -> bool
 
 // Every slot of node n.
 fn slots_fit(t: &[u16], n: usize, used: usize) -> bool
-    requires { ⌜ n < 1024 ⌝ }
+    requires { ⌜ (n < 1024) × (n < tree.nodes (now t)) ⌝ }
     ensures { λ r. ⌜ r ≡ walk.slotTests (now (t .entry)) n used ⌝ }
 {
     for i in 0..7usize {
@@ -92,7 +136,7 @@ fn slots_fit(t: &[u16], n: usize, used: usize) -> bool
 // 13, then 14, at node n.
 fn node_fault(words: &[u16], offsets: &[u16; 64], t: &[u16], n: usize) -> Verdict
     requires { ⌜ walk.Ready (now words) (now offsets) ⌝ }
-    requires { ⌜ n < 1024 ⌝ }
+    requires { ⌜ (n < 1024) × (n < tree.nodes (now t)) ⌝ }
     ensures { λ r. ⌜ r ≡ check.nodeFault (now (words .entry)) (now (t .entry)) n ⌝ }
 {
     if known_word(words, t, n) {
@@ -107,7 +151,7 @@ fn node_fault(words: &[u16], offsets: &[u16; 64], t: &[u16], n: usize) -> Verdic
 // The walk up the nodes for 13 and 14.
 fn nodes_fault(words: &[u16], offsets: &[u16; 64], t: &[u16], nodes: usize) -> Verdict
     requires { ⌜ walk.Ready (now words) (now offsets) ⌝ }
-    requires { ⌜ nodes ≤ 1024 ⌝ }
+    requires { ⌜ (nodes ≤ 1024) × (nodes ≤ tree.nodes (now t)) ⌝ }
     ensures { λ r. ⌜ r ≡ each nodes (λ n. check.nodeFault (now (words .entry)) (now (t .entry)) n) ⌝ }
 {
     for n in 0..nodes {
@@ -123,12 +167,12 @@ fn nodes_fault(words: &[u16], offsets: &[u16; 64], t: &[u16], nodes: usize) -> V
 fn symbol_at_node(words: &[u16], offsets: &[u16; 64], t: &[u16], n: usize) -> usize
     requires { ⌜ walk.Ready (now words) (now offsets) ⌝ }
     requires { ⌜ T (check.knownWord (now words) (now t) n) ⌝ }
-    requires { ⌜ n < 1024 ⌝ }
+    requires { ⌜ (n < 1024) × (n < tree.nodes (now t)) ⌝ }
     ensures { λ r. ⌜ r ≡ tree.symbolAtNode (now (words .entry)) (now (t .entry)) n ⌝ }
 {
-    let r = access::word(t, 8 * n);
+    let r = word(t, 8 * n);
     if r < 32768 {
-        return access::word(words, offsets[r] as usize);
+        return word(words, wide(offsets[r]));
     }
     r - 32768
 }
@@ -140,8 +184,8 @@ fn child_fits(words: &[u16], offsets: &[u16; 64], t: &[u16], n: usize, p: usize,
     requires { ⌜ walk.UsedSlot (now words) (now t) n p i ⌝ }
     ensures { λ r. ⌜ r ≡ walk.childTest (now (words .entry)) (now (t .entry)) n i ⌝ }
 {
-    let child = access::word(t, 8 * n + i);
-    symbol_at_node(words, offsets, t, child) == access::symbol_of(words, p, i)
+    let child = word(t, 8 * n + i);
+    symbol_at_node(words, offsets, t, child) == symbol_of(words, p, i)
 }
 
 // 16 at the used slots of node n, whose rule starts at word p.
@@ -166,10 +210,10 @@ fn children_fit(words: &[u16], offsets: &[u16; 64], t: &[u16], n: usize) -> bool
     requires { ⌜ n < tree.nodes (now t) ⌝ }
     ensures { λ r. ⌜ r ≡ check.childrenFit (now (words .entry)) (now (t .entry)) n ⌝ }
 {
-    let r = access::word(t, 8 * n);
+    let r = word(t, 8 * n);
     if r < 32768 {
-        let p = offsets[r] as usize;
-        return slots_match(words, offsets, t, n, p, access::right_length(words, p));
+        let p = wide(offsets[r]);
+        return slots_match(words, offsets, t, n, p, right_length(words, p));
     }
     true
 }
@@ -195,7 +239,7 @@ fn name_children(named: &mut [u16], t: &[u16], n: usize, used: usize)
     ensures { λ _. ⌜ walk.NamedMore (now (named .entry)) (now (named .exit)) (now (t .entry)) n used ⌝ }
 {
     for i in 0..used {
-        let child = access::word(t, 8 * n + i + 1);
+        let child = word(t, 8 * n + i + 1);
         named[child] = named[child] + 1;
     }
 }
@@ -251,7 +295,7 @@ pub fn check(words: &[u16], offsets: &[u16; 64], t: &[u16], values: usize) -> Ve
     let Verdict::Good = first else {
         return first;
     };
-    if symbol_at_node(words, offsets, t, 0) != access::word(words, 2) {
+    if symbol_at_node(words, offsets, t, 0) != word(words, 2) {
         return Verdict::Refused(Refusal::RootNotStart);
     }
     let second = children_fault(words, offsets, t, nodes);

@@ -29,6 +29,7 @@ use Rattle.planner.proofs.RoomLaws.{both-long}
 use Rattle.trees.specs.Checking.{checkTree}
 use Rattle.trees.proofs.AcceptedTree.{accepted-tree}
 use Rattle.runs.specs.declared.Ran as R
+use Rattle.runs.specs.declared.Report.{Report}
 use Rattle.runs.specs.Sound.{Sound}
 use Rattle.runs.specs.Automaton.{Machine}
 use Rattle.runs.specs.Totals.{totalOf, total}
@@ -140,7 +141,7 @@ module _ (g rows plan t : List ℕ) (v : List ℤ) (budget : ℕ) where
       of-plan (inPlan c) = c
       of-plan (inTree c) = absurd (omega (arith, tree-place g t (length v) n c .late))
 
-  pub computed-1-run : Demand1Run g rows plan t v (whole.answer g rows plan t v budget) (whole.values g rows plan t v budget)
+  pub computed-1-run : Demand1Run g rows plan t v (record { ran = whole.answer g rows plan t v budget }) (whole.values g rows plan t v budget)
       (rowsAfter g reached rows) (planAfter g reached plan)
   computed-1-run =
       record {
@@ -154,14 +155,15 @@ module _ (g rows plan t : List ℕ) (v : List ℤ) (budget : ℕ) where
       }
 
   -- Demand 1, of `run`.
-  pub demand-1-run : (ran : R.Ran) (v′ : List ℤ) (rows′ plan′ : List ℕ) → runner.Answered g rows plan t v budget ran v′ rows′ plan′
-      → Demand1Run g rows plan t v ran v′ rows′ plan′
+  pub demand-1-run : (report : Report) (v′ : List ℤ) (rows′ plan′ : List ℕ) → runner.Answered g rows plan t v budget report v′ rows′ plan′
+      → Demand1Run g rows plan t v report v′ rows′ plan′
   unfolding whole.came
-  demand-1-run ran v′ rows′ plan′ w =
-      subst⁻¹ (λ (a : R.Ran). Demand1Run g rows plan t v a v′ rows′ plan′) (w .answers)
-      (subst⁻¹ (λ (x : List ℤ). Demand1Run g rows plan t v (whole.answer g rows plan t v budget) x rows′ plan′) (w .valuesAre)
-      (subst⁻¹ (λ (x : List ℕ). Demand1Run g rows plan t v (whole.answer g rows plan t v budget) (whole.values g rows plan t v budget) x plan′) (w .rowsAre)
-      (subst⁻¹ (λ (x : List ℕ). Demand1Run g rows plan t v (whole.answer g rows plan t v budget) (whole.values g rows plan t v budget) (rowsAfter g reached rows) x)
+  demand-1-run report v′ rows′ plan′ w =
+      let told : Report = record { ran = whole.answer g rows plan t v budget } in
+      subst⁻¹ (λ (a : R.Ran). Demand1Run g rows plan t v (record { ran = a }) v′ rows′ plan′) (w .answers)
+      (subst⁻¹ (λ (x : List ℤ). Demand1Run g rows plan t v told x rows′ plan′) (w .valuesAre)
+      (subst⁻¹ (λ (x : List ℕ). Demand1Run g rows plan t v told (whole.values g rows plan t v budget) x plan′) (w .rowsAre)
+      (subst⁻¹ (λ (x : List ℕ). Demand1Run g rows plan t v told (whole.values g rows plan t v budget) (rowsAfter g reached rows) x)
       (w .planIs) computed-1-run)))
 
   -- Demand 3, of `run`, where no case of 1 to 18 applies.
@@ -190,10 +192,10 @@ module _ (g rows plan t : List ℕ) (v : List ℤ) (budget : ℕ) where
     planned = let f = ordered-free g is-read run-ordered in planned-sound g is-read plan (f .noIdpCycle) (f .noEdpCycle)
 
     -- what is answered and left is what a run of that plan answers and leaves
-    is-run : (ran′ : R.Ran) (v′ : List ℤ) (rows′ plan′ : List ℕ) → runner.Answered g rows plan t v budget ran′ v′ rows′ plan′
-        → (plan′ ≡ p) × (ran′ ≡ ran g p t v budget .answer) × (v′ ≡ ran g p t v budget .machine .values)
+    is-run : (report : Report) (v′ : List ℤ) (rows′ plan′ : List ℕ) → runner.Answered g rows plan t v budget report v′ rows′ plan′
+        → (plan′ ≡ p) × (report .ran ≡ ran g p t v budget .answer) × (v′ ≡ ran g p t v budget .machine .values)
     unfolding whole.came whole.answer whole.values runAnswer valuesAfter
-    is-run ran′ v′ rows′ plan′ w =
+    is-run report v′ rows′ plan′ w =
         let left : planAfter g reached plan ≡ p = ap (λ (o : Outcome). planAfter g o plan) is-accepted in
         (w .planIs ∙ left,
         w .answers
@@ -205,22 +207,22 @@ module _ (g rows plan t : List ℕ) (v : List ℤ) (budget : ℕ) where
         ∙ (ap (λ (o : Outcome). valuesAfter g p t o (checkTree g t (length v)) v budget) is-accepted
         ∙ ap (λ (c : Verdict). valuesAfter g p t accepted c v budget) is-tree)))
 
-    runs : (ran′ : R.Ran) (v′ : List ℤ) (rows′ plan′ : List ℕ) → runner.Answered g rows plan t v budget ran′ v′ rows′ plan′
+    runs : (report : Report) (v′ : List ℤ) (rows′ plan′ : List ℕ) → runner.Answered g rows plan t v budget report v′ rows′ plan′
         → (o : IsOrdered g) (sequence : ℕ → List ℕ) → ((r : ℕ) → T (ruleCounts g r) → Sequence g (o .set) r (sequence r))
-        → Demand3 g plan′ t v budget (totalOf sequence t) ran′ v′
-    runs ran′ v′ rows′ plan′ w o sequence are =
-        let e = is-run ran′ v′ rows′ plan′ w in
+        → Demand3 g plan′ t v budget (totalOf sequence t) (report .ran) v′
+    runs report v′ rows′ plan′ w o sequence are =
+        let e = is-run report v′ rows′ plan′ w in
         let formed : WellFormed g = read-exactly g .0 is-read in
         let added : total p t ≡ totalOf sequence t =
                 total-stands g p t (length v) (accepted-tree g t (length v) formed is-tree) sequence
                 (λ r c.
                     accepted-written g is-read (ordered-idp g formed o) (o .set) (o .areSets) rows plan .sequence r c (sequence r) (are r c)) in
-        subst⁻¹ (λ (x : List ℕ). Demand3 g x t v budget (totalOf sequence t) ran′ v′) (e .0)
+        subst⁻¹ (λ (x : List ℕ). Demand3 g x t v budget (totalOf sequence t) (report .ran) v′) (e .0)
         (subst⁻¹ (λ (a : R.Ran). Demand3 g p t v budget (totalOf sequence t) a v′) (e .1)
         (subst⁻¹ (λ (x : List ℤ). Demand3 g p t v budget (totalOf sequence t) (ran g p t v budget .answer) x) (e .2)
         (subst (λ (n : ℕ). Demand3 g p t v budget n (ran g p t v budget .answer) (ran g p t v budget .machine .values)) added
         (demand-3-sound g p t v budget formed planned (λ n c. none n (inTree c))))))
 
-    pub demand-3 : (ran′ : R.Ran) (v′ : List ℤ) (rows′ plan′ : List ℕ) → runner.Answered g rows plan t v budget ran′ v′ rows′ plan′
-        → Demand3Run g t v budget ran′ v′ plan′
-    demand-3 ran′ v′ rows′ plan′ w = record { ordered = run-ordered; runs = runs ran′ v′ rows′ plan′ w }
+    pub demand-3 : (report : Report) (v′ : List ℤ) (rows′ plan′ : List ℕ) → runner.Answered g rows plan t v budget report v′ rows′ plan′
+        → Demand3Run g t v budget report v′ plan′
+    demand-3 report v′ rows′ plan′ w = record { ordered = run-ordered; runs = runs report v′ rows′ plan′ w }

@@ -36,6 +36,7 @@ use Rattle.plans.specs.Left.{RowsHold, EDP⁺, SequenceStands, Written, Beyond}
 use Rattle.plans.proofs.Stays.{past-room, rows-stay, plan-stay}
 use Rattle.planner.specs.Answered.{Answered}
 use Rattle.runs.specs.declared.Ran as R
+use Rattle.runs.specs.declared.Report.{Report}
 use Rattle.runs.specs.Computing.{machineAt}
 use Rattle.runs.specs.Totals.{totalOf}
 use Rattle.runner.specs.Whole as whole
@@ -251,12 +252,12 @@ plan-determined g rows plan answer s p one two = go (outcome g (length rows) (le
 -- What meets demands 1 and 3 meets the contract of `run`.
 module _ (g rows plan t : List ℕ) (v : List ℤ) (budget : ℕ) where
   -- where some case answers
-  refused-run : (n : Refusal) → whole.answer g rows plan t v budget ≡ R.the-variants.Refused n → (ran : R.Ran) (v′ : List ℤ) (s p : List ℕ)
-      → Demand1Run g rows plan t v ran v′ s p → runner.Answered g rows plan t v budget ran v′ s p
+  refused-run : (n : Refusal) → whole.answer g rows plan t v budget ≡ R.the-variants.Refused n → (report : Report) (v′ : List ℤ) (s p : List ℕ)
+      → Demand1Run g rows plan t v report v′ s p → runner.Answered g rows plan t v budget report v′ s p
   unfolding whole.came
-  refused-run n e ran v′ s p one =
+  refused-run n e report v′ s p one =
       let first : Refuses g (length rows) (length plan) t (length v) n = run-refused g rows plan t v budget n .0 e in
-      let is : ran ≡ R.the-variants.Refused n = one .refuses n .1 first in
+      let is : report .ran ≡ R.the-variants.Refused n = one .refuses n .1 first in
       let left = one .leaves n is in
       let w = computed-1-run g rows plan t v budget .leaves n e in
       let both : (s ≡ rowsAfter g (came g rows plan) rows) × (p ≡ planAfter g (came g rows plan) plan) =
@@ -283,15 +284,15 @@ module _ (g rows plan t : List ℕ) (v : List ℤ) (budget : ℕ) where
         sequence-obeys g good (ordered-idp g (read-exactly g .0 good) o) (o .set) (o .areSets) r c
 
     -- where none applies
-    carried-run : (ran : R.Ran) (v′ : List ℤ) (s p : List ℕ) → Demand1Run g rows plan t v ran v′ s p
-        → Demand3Run g t v budget ran v′ p → runner.Answered g rows plan t v budget ran v′ s p
+    carried-run : (report : Report) (v′ : List ℤ) (s p : List ℕ) → Demand1Run g rows plan t v report v′ s p
+        → Demand3Run g t v budget report v′ p → runner.Answered g rows plan t v budget report v′ s p
     unfolding whole.came
-    carried-run ran v′ s p one three =
+    carried-run report v′ s p one three =
         let o : IsOrdered g = run-ordered g rows plan t v budget none in
-        let d : Demand3 g p t v budget (totalOf sequence t) ran v′ = three .runs o sequence (are o) in
+        let d : Demand3 g p t v budget (totalOf sequence t) (report .ran) v′ = three .runs o sequence (are o) in
         let c : Demand3 g (planAfter g (came g rows plan) plan) t v budget (totalOf sequence t) (whole.answer g rows plan t v budget)
                     (whole.values g rows plan t v budget) =
-                demand-3 g rows plan t v budget none (whole.answer g rows plan t v budget) (whole.values g rows plan t v budget)
+                demand-3 g rows plan t v budget none (record { ran = whole.answer g rows plan t v budget }) (whole.values g rows plan t v budget)
                 (rowsAfter g (came g rows plan) rows) (planAfter g (came g rows plan) plan)
                 (record { answers = refl; valuesAre = refl; rowsAre = refl; planIs = refl }) .runs o sequence (are o) in
         let w = same-written g rows plan (is-accepted g rows plan t v budget none) s p (one .written none) (one .stays) in
@@ -305,16 +306,16 @@ module _ (g rows plan t : List ℕ) (v : List ℤ) (budget : ℕ) where
             planIs = w .1
         }
 
-  pub run-determined : (ran : R.Ran) (v′ : List ℤ) (s p : List ℕ) → Demand1Run g rows plan t v ran v′ s p
-      → (((n : Refusal) → ¬ RunCase g (length rows) (length plan) t (length v) n) → Demand3Run g t v budget ran v′ p)
-      → runner.Answered g rows plan t v budget ran v′ s p
-  run-determined ran v′ s p one three = go (whole.answer g rows plan t v budget) refl
+  pub run-determined : (report : Report) (v′ : List ℤ) (s p : List ℕ) → Demand1Run g rows plan t v report v′ s p
+      → (((n : Refusal) → ¬ RunCase g (length rows) (length plan) t (length v) n) → Demand3Run g t v budget report v′ p)
+      → runner.Answered g rows plan t v budget report v′ s p
+  run-determined report v′ s p one three = go (whole.answer g rows plan t v budget) refl
     where
       carried : (a : R.Ran) → whole.answer g rows plan t v budget ≡ a → ((n : Refusal) → ¬ (a ≡ R.the-variants.Refused n))
-          → runner.Answered g rows plan t v budget ran v′ s p
+          → runner.Answered g rows plan t v budget report v′ s p
       carried a e h =
-          let none = run-carried-out g rows plan t v budget .0 (λ n q. h n (sym e ∙ q)) in carried-run none ran v′ s p one (three none)
-      go : (a : R.Ran) → whole.answer g rows plan t v budget ≡ a → runner.Answered g rows plan t v budget ran v′ s p
-      go (R.the-variants.Refused n) e = refused-run n e ran v′ s p one
+          let none = run-carried-out g rows plan t v budget .0 (λ n q. h n (sym e ∙ q)) in carried-run none report v′ s p one (three none)
+      go : (a : R.Ran) → whole.answer g rows plan t v budget ≡ a → runner.Answered g rows plan t v budget report v′ s p
+      go (R.the-variants.Refused n) e = refused-run n e report v′ s p one
       go (R.the-variants.Done k) e = carried (R.the-variants.Done k) e (λ n q. let z : _≡_ {A = ℕ} 0 1 = cc in omega arith)
       go (R.the-variants.Stopped k) e = carried (R.the-variants.Stopped k) e (λ n q. let z : _≡_ {A = ℕ} 0 1 = cc in omega arith)

@@ -22,6 +22,7 @@ use Rattle.trees.specs.Tree.{ruleOf, appliesRule, nodeAt, cell}
 use Rattle.trees.specs.Equations.{valueAt, Solution, SameTerminals}
 use Rattle.trees.specs.Definers.{AttributeOf}
 use Rattle.runs.specs.declared.Ran as R
+use Rattle.runs.specs.declared.Report.{Report}
 use Rattle.runs.specs.Sound.{Sound}
 use Rattle.runs.specs.Depth.{longestDown}
 use Rattle.runs.specs.Totals.{totalOf}
@@ -58,10 +59,10 @@ pub record Demand1 (g rows plan : List ℕ) (answer : P.Planned) (rows′ plan�
   pub stays : Stays g rows plan rows′ plan′
 
 -- of `run`: it refuses with the first of the cases 1 to 18 that applies, and leaves the values; where none applies, rows and plan are written
-pub record Demand1Run (g rows plan t : List ℕ) (v : List ℤ) (ran : R.Ran) (v′ : List ℤ) (rows′ plan′ : List ℕ) : Type 1 where
-  pub refuses : (n : Refusal) → (ran ≡ R.the-variants.Refused n) ↔ Refuses g (length rows) (length plan) t (length v) n
-  pub leaves : (n : Refusal) → ran ≡ R.the-variants.Refused n → Leaves g rows plan n rows′ plan′
-  pub valuesStay : (n : Refusal) → ran ≡ R.the-variants.Refused n → v′ ≡ v
+pub record Demand1Run (g rows plan t : List ℕ) (v : List ℤ) (report : Report) (v′ : List ℤ) (rows′ plan′ : List ℕ) : Type 1 where
+  pub refuses : (n : Refusal) → (report .ran ≡ R.the-variants.Refused n) ↔ Refuses g (length rows) (length plan) t (length v) n
+  pub leaves : (n : Refusal) → report .ran ≡ R.the-variants.Refused n → Leaves g rows plan n rows′ plan′
+  pub valuesStay : (n : Refusal) → report .ran ≡ R.the-variants.Refused n → v′ ≡ v
   pub written : ((n : Refusal) → ¬ RunCase g (length rows) (length plan) t (length v) n) → (set : ℕ → ℕ → ℕ) → PaperSets g set
       → Written g set rows′ plan′
   pub stays : Stays g rows plan rows′ plan′
@@ -115,7 +116,7 @@ pub record Demand3 (g p t : List ℕ) (v : List ℤ) (budget total : ℕ) (ran :
   pub stackBound : (k : ℕ) → length (machineAt g p t v k .stack) ≤ longestDown g t
 
 -- of `run`, where no case of 1 to 18 applies: the grammar is ordered, and the total is summed over the tie rule's sequences
-pub record Demand3Run (g t : List ℕ) (v : List ℤ) (budget : ℕ) (ran : R.Ran) (v′ : List ℤ) (plan′ : List ℕ) : Type 1 where
+pub record Demand3Run (g t : List ℕ) (v : List ℤ) (budget : ℕ) (report : Report) (v′ : List ℤ) (plan′ : List ℕ) : Type 1 where
   pub ordered : IsOrdered g
   pub runs : (o : IsOrdered g) (sequence : ℕ → List ℕ) → ((r : ℕ) → T (ruleCounts g r) → Sequence g (o .set) r (sequence r))
-      → Demand3 g plan′ t v budget (totalOf sequence t) ran v′
+      → Demand3 g plan′ t v budget (totalOf sequence t) (report .ran) v′

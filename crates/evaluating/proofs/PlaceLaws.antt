@@ -1,13 +1,12 @@
 -- The value of the function at a word, by its operation: each of its arguments is read, and no other counts.
 -- Where the word is that of function k of the rule at a node, it is the value that the equations of the tree give. Assumes nothing.
 use Prim.Native.Nat.{ℕ, _+_, _*_, _%_, _^_, _≤_, _<_}
-use mathlib.Core.Path.{_≡_, sym, _∙_, ap}
+use mathlib.Core.Path.{_≡_, sym, _∙_, ap, subst⁻¹}
 use mathlib.Core.Bool.{not}
 use mathlib.Core.List.{List}
 use native.Mathlib.Omega.{arith}
 use lib.Dec.{T, ltb, leb, eqb, lt→ltb, leb→le, le→leb, not-T, eqb→eq}
 use lib.IntN.{ℤ, pos}
-use lib.ListN.{length, getD, List·getD-eq-default}
 use lib.Signed.{mag}
 use borrow.Author.Tests.{le-ltb}
 use mir.Syntax.{w32}
@@ -16,37 +15,34 @@ use mir.Facts.{toZ-ofZ}
 use Rattle.basics.specs.Lists.{word}
 use Rattle.basics.proofs.TestLaws.{eq-T, chosen, passed-over, false-T}
 use Rattle.values.specs.Value.{result, constant}
-use Rattle.values.proofs.LocalLaws.{handed-on}
+use Rattle.values.proofs.LocalLaws.{handed-on, past}
 use Rattle.grammar.specs.Table.{argumentWords, isConstant, functionOf, operation, argument, arguments, position}
 use Rattle.trees.specs.Tree.{ruleOf, nodeAt, cell}
 use Rattle.trees.specs.Equations.{valueAt, argumentValue, functionValue}
 use Rattle.trees.proofs.Cells.{cell-is}
-use Rattle.evaluating.specs.FunctionPlaces.{operationAt, argumentAt, argumentsAt, occurrenceValue, argumentFrom, valueFrom}
+use Rattle.evaluating.specs.FunctionPlaces.{operationAt, argumentAt, argumentsAt, occurrenceValue, argumentFrom, valueFrom, Named}
 
 -- ---- a value in the machine is read back whole
 
 pub kept : {r z : ℤ} → mag r < 2 ^ 31 → r ≡ z → toZ w32 (ofZ w32 r) ≡ z
 kept h e = toZ-ofZ (record { sfits = h }) ∙ e
 
--- past the end of the values stands 0
-pub past-end : (values : List ℤ) (c : ℕ) → length values ≤ c → pos 0 ≡ getD values c (pos 0)
-past-end values c h = sym (List·getD-eq-default values (pos 0) h)
-
 -- a cell, from the node at the occurrence's position
 pub cell-from : (t : List ℕ) (n o m : ℕ) → m ≡ nodeAt t n (position o) → 8 * m + o % 8 ≡ cell t n o
 cell-from t n o m e = ap (λ (x : ℕ). 8 * x + o % 8) e ∙ sym (cell-is t n o)
 
--- the value of the occurrence that a word names
-pub named-value : (t : List ℕ) (values : List ℤ) (n w : ℕ) {o c : ℕ} {r : ℤ} → o ≡ w → c ≡ cell t n o → r ≡ valueAt values c → mag r < 2 ^ 31
-    → toZ w32 (ofZ w32 r) ≡ occurrenceValue t values n w
-named-value t values n w {o} {c} {r} e d h l =
-    kept l (h ∙ (ap (valueAt values) d ∙ ap (λ (x : ℕ). occurrenceValue t values n x) e))
+-- the occurrence that a word names: its cell is one of the values, and holds its value
+pub named-cell : {g t : List ℕ} {q n l o c : ℕ} → Named g q t n l → o ≡ word g q → c ≡ cell t n o → c < l
+named-cell {g} {t} {q} {n} {l} w e d = subst⁻¹ (λ (x : ℕ). x < l) (d ∙ ap (cell t n) e) (w .inValues)
+
+pub named-value : (t : List ℕ) (values : List ℤ) (n w : ℕ) {o c : ℕ} → o ≡ w → c ≡ cell t n o → mag (valueAt values c) < 2 ^ 31
+    → toZ w32 (ofZ w32 (valueAt values c)) ≡ occurrenceValue t values n w
+named-value t values n w e d l = kept l (ap (valueAt values) d ∙ ap (λ (x : ℕ). occurrenceValue t values n x) e)
 
 -- the constant of the function at word f
-pub named-constant : (g : List ℕ) (f : ℕ) {q : ℕ} {r : ℤ} → q ≡ word g (f + 2) → r ≡ constant q → mag r < 2 ^ 31
+pub named-constant : (g : List ℕ) (f : ℕ) {r : ℤ} → r ≡ constant (word g (f + 2)) → mag r < 2 ^ 31
     → toZ w32 (ofZ w32 r) ≡ constant (argumentAt g f 0)
-named-constant g f {q} {r} e h l =
-    let i : f + 2 ≡ f + 2 + 0 = omega arith in kept l (h ∙ ap constant (e ∙ ap (word g) i))
+named-constant g f h l = let i : f + 2 ≡ f + 2 + 0 = omega arith in kept l (h ∙ ap (λ (p : ℕ). constant (word g p)) i)
 
 -- ---- how many words the arguments of an operation are
 
@@ -163,6 +159,11 @@ module _ (g t : List ℕ) (values : List ℤ) (n f : ℕ) where
           let w : argumentWords (operationAt g f) ≡ 4 = words-four (operationAt g f) (omega arith) in
           kept l (q ∙ from-arguments e (first (omega arith)) (second (omega arith)) (third (omega arith))
           (kept d′ (d ∙ sym (given-argument 3 (f + 5) (omega arith) (omega arith) (omega arith)))))
+
+-- the operation that no arm of the eight names
+pub from-eight : {op : ℕ} → (op ≡ 0 → ⊥) → (op ≡ 1 → ⊥) → (op ≡ 2 → ⊥) → (op ≡ 3 → ⊥) → (op ≡ 4 → ⊥) → (op ≡ 5 → ⊥) → (op ≡ 6 → ⊥) → (op ≡ 7 → ⊥)
+    → 8 ≤ op
+from-eight a b c d e f g h = past 7 (past 6 (past 5 (past 4 (past 3 (past 2 (past 1 (past 0 (omega arith) a) b) c) d) e) f) g) h
 
 -- ---- the same by number
 

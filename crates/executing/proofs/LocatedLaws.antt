@@ -1,12 +1,12 @@
 -- The loops that note where functions start: targets of one rule differ, and each rule has 64 words of its own, so nothing is written over.
 -- Assumes nothing.
 use Prim.Native.Nat.{ℕ, suc, _+_, _*_, _≤_, _<_}
-use mathlib.Core.Path.{_≡_, refl, sym, _∙_, ap, subst, subst⁻¹}
+use mathlib.Core.Path.{_≡_, refl, sym, _∙_, ap, subst⁻¹}
 use mathlib.Core.Logic.{⊎-elim}
 use mathlib.Core.List.{List}
 use native.Mathlib.Omega.{arith}
 use native.Mathlib.Numerals.{add-one}
-use lib.ListN.{length, set, replicate, length-set, length-replicate}
+use lib.ListN.{length, set, length-set}
 use lib.Seq.{getD-set-same, getD-set-other}
 use Rattle.basics.specs.Lists.{word}
 use Rattle.basics.proofs.TestLaws.{below-suc}
@@ -118,11 +118,9 @@ pub record AllLocated (g offsets starts : List ℕ) (r : ℕ) : Type 0 where
   pub size : length starts ≡ 4096
   pub located : (q : ℕ) → q < r → HasRule g starts q
 
-pub all-start : (g offsets : List ℕ) → readTable g ≡ Good → offsets ≡ offsetsFor g Good → AllLocated g offsets (replicate 4096 0) 0
-all-start g offsets good e =
-    record {
-        good = good; offsetsIs = e; inside = omega arith; size = length-replicate {A = ℕ} 4096 0; located = λ q h. absurd (omega arith)
-    }
+pub all-start : (g offsets starts : List ℕ) → readTable g ≡ Good → offsets ≡ offsetsFor g Good → length starts ≡ 4096 → AllLocated g offsets starts 0
+all-start g offsets starts good e size =
+    record { good = good; offsetsIs = e; inside = omega arith; size = size; located = λ q h. absurd (omega arith) }
 
 -- what is handed to the next rule
 pub offset-is : (g offsets starts : List ℕ) (r : ℕ) → AllLocated g offsets starts r → r < rules g → word offsets r ≡ ruleAt g r

@@ -1,4 +1,4 @@
-// The run of a plan over a checked tree: the stack automaton of 000, section 6.3, with its stack and places in arrays.
+// The run of a plan over a checked tree: the stack automaton of 000, section 6.3, with its stack and places in arrays and the node on top in locals.
 use runs::Ran;
 ghost use mathlib.Core.Path.{_≡_};
 ghost use Prim.Native.Nat.{_+_, _*_, _≤_, _<_};
@@ -10,7 +10,7 @@ ghost use Rattle.grammar.specs.Reading.{readTable};
 ghost use Rattle.access.specs.Offsets.{offsetsFor};
 ghost use Rattle.trees.specs.Tree as trees;
 ghost use Rattle.trees.specs.Checking.{checkTree};
-ghost use Rattle.plans.specs.Sequences as sequences;
+ghost use Rattle.evaluating.specs.FunctionPlaces.{Valued};
 ghost use Rattle.runs.specs.Sound.{Sound};
 ghost use Rattle.runs.specs.Run as runs;
 ghost use Rattle.executing.specs.Located as located;
@@ -39,44 +39,36 @@ fn locate_rule(words: &[u16], r: usize, p: usize, starts: &mut [u16; 4096])
 }
 
 // Where the function of each occurrence starts: word 64 r + o for occurrence o of rule r, so that a run need not look for it.
-fn function_starts(words: &[u16], offsets: &[u16; 64]) -> [u16; 4096]
+fn function_starts(words: &[u16], offsets: &[u16; 64], starts: &mut [u16; 4096])
     requires { ⌜ readTable (now words) ≡ Good ⌝ }
     requires { ⌜ now offsets ≡ offsetsFor (now words) Good ⌝ }
-    ensures { λ r. ⌜ located.Located (now (words .entry)) r ⌝ }
+    requires { ⌜ length (now starts) ≡ 4096 ⌝ }
+    ensures { λ _. ⌜ located.Located (now (words .entry)) (now (starts .exit)) ⌝ }
 {
-    let mut starts = [0u16; 4096];
     for r in 0..access::word(words, 1) {
-        locate_rule(words, r, wide(offsets[r]), &mut starts);
+        locate_rule(words, r, wide(offsets[r]), starts);
     }
-    starts
 }
 
 // The rule of node n, and its child at position i.
 fn rule_of(tree: &[u16], n: usize) -> usize
     requires { ⌜ n < trees.nodes (now tree) ⌝ }
-    ensures { λ r. ⌜ r ≡ trees.ruleOf (now (tree .entry)) n ⌝ }
+    ensures { λ r. ⌜ (r ≡ trees.ruleOf (now (tree .entry)) n) × (r < 65536) ⌝ }
 {
     wide(tree[8 * n])
 }
 
-fn child(tree: &[u16], n: usize, i: usize) -> u16
+fn child(tree: &[u16], n: usize, i: usize) -> usize
     requires { ⌜ (n < trees.nodes (now tree)) × (i < 8) ⌝ }
-    ensures { λ r. ⌜ r ≡ trees.child (now (tree .entry)) n i ⌝ }
+    ensures { λ r. ⌜ (r ≡ trees.child (now (tree .entry)) n i) × (r < 65536) ⌝ }
 {
-    tree[8 * n + i]
-}
-
-// The action at a place of rule r's sequence.
-fn action_at(plan: &[u16], r: usize, place: usize) -> usize
-    requires { ⌜ (place < 111) × (368 + 112 * r ≤ length (now plan)) ⌝ }
-    ensures { λ a. ⌜ a ≡ sequences.actionAt (now (plan .entry)) r place ⌝ }
-{
-    wide(plan[256 + 112 * r + 1 + place])
+    wide(tree[8 * n + i])
 }
 
 // Computes occurrence o of the rule at node n, whose function starts at word f.
 fn compute(words: &[u16], f: usize, tree: &[u16], values: &mut [i32], n: usize, o: usize)
-    requires { ⌜ (f < 65536) × ((n < 65536) × (o < 65536)) ⌝ }
+    requires { ⌜ Valued (now words) f (now tree) n (length (now values)) ⌝ }
+    requires { ⌜ (n < trees.nodes (now tree)) × ((n < 65536) × (o < 64)) ⌝ }
     requires { ⌜ trees.cell (now tree) n o < length (now values) ⌝ }
     ensures { λ _. ⌜ now (values .exit) ≡ state.written (now (words .entry)) (now (tree .entry)) (now (values .entry)) n o f ⌝ }
 {
@@ -85,44 +77,8 @@ fn compute(words: &[u16], f: usize, tree: &[u16], values: &mut [i32], n: usize, 
     values[c] = value;
 }
 
-// One action of the node on top: a compute writes one value, a visit pushes the child, a leave pops. It answers how many nodes are then on the stack.
-fn step(
-    words: &[u16],
-    starts: &[u16; 4096],
-    plan: &[u16],
-    tree: &[u16],
-    values: &mut [i32],
-    stack: &mut [u16; 1024],
-    places: &mut [u16; 1024],
-    depth: usize,
-) -> usize
-    requires { ⌜ state.Ready (now words) (now plan) (now tree) (now starts) (length (now values)) (now stack) (now places) depth ⌝ }
-    ensures { λ r. ⌜ state.Stepped (now (words .entry)) (now (plan .entry)) (now (tree .entry)) (state.machineOf (now (tree .entry)) (now (stack .entry)) depth (now (places .entry)) (now (values .entry))) (now (stack .exit)) r (now (places .exit)) (now (values .exit)) ⌝ }
-{
-    let n = wide(stack[depth - 1]);
-    let r = rule_of(tree, n);
-    let place = places[n];
-    places[n] = place + 1;
-    let action = action_at(plan, r, wide(place));
-    if action < 64 {
-        compute(
-            words,
-            wide(starts[64 * r + action]),
-            tree,
-            values,
-            n,
-            action,
-        );
-        return depth;
-    }
-    if action < 128 {
-        stack[depth] = child(tree, n, (action - 64) / 8);
-        return depth + 1;
-    }
-    depth - 1
-}
-
-// Runs the plan over the tree until the stack is empty or the budget is used up.
+// Runs the plan over the tree until the stack is empty or the budget is used up: a compute writes one value, a visit pushes the child, a leave pops.
+// The node on top goes on word by word of the plan; its place is written when it is left, and read when it is visited again.
 pub fn execute(
     words: &[u16],
     offsets: &[u16; 64],
@@ -139,26 +95,46 @@ pub fn execute(
     ensures { λ r. ⌜ r ≡ runs.ran (now (words .entry)) (now (plan .entry)) (now (tree .entry)) (now (values .entry)) budget .answer ⌝ }
     ensures { λ _. ⌜ now (values .exit) ≡ runs.ran (now (words .entry)) (now (plan .entry)) (now (tree .entry)) (now (values .entry)) budget .machine .values ⌝ }
 {
-    let starts = function_starts(words, offsets);
+    let mut starts = [0u16; 4096];
+    function_starts(words, offsets, &mut starts);
+    // The nodes below the one on top, and for each the plan's word at which it goes on.
     let mut stack = [0u16; 1024];
+    let mut marks = [0u16; 1024];
+    // For each other node the place of its sequence at which it goes on: a child resumes after its last leave.
     let mut places = [0u16; 1024];
-    let mut depth: usize = 1;
-    let mut count: u32 = 0;
-    while depth != 0 {
-        if count == budget {
+    let mut depth: usize = 0;
+    // The node on top, its rule, and the plan's word at which it is.
+    let mut n: usize = 0;
+    let mut r = rule_of(tree, 0);
+    let mut at = 257 + 112 * r;
+    let mut left = budget;
+    loop {
+        if left == 0 {
             return Ran::Stopped(budget);
         }
-        depth = step(
-            words,
-            &starts,
-            plan,
-            tree,
-            values,
-            &mut stack,
-            &mut places,
-            depth,
-        );
-        count += 1;
+        left -= 1;
+        let action = wide(plan[at]);
+        if action < 64 {
+            compute(words, wide(starts[64 * r + action]), tree, values, n, action);
+            at += 1;
+            continue;
+        }
+        if action < 128 {
+            stack[depth] = n as u16;
+            marks[depth] = (at + 1) as u16;
+            depth += 1;
+            n = child(tree, n, (action - 64) / 8);
+            r = rule_of(tree, n);
+            at = 257 + 112 * r + wide(places[n]);
+            continue;
+        }
+        places[n] = (at - (256 + 112 * r)) as u16;
+        if depth == 0 {
+            return Ran::Done(budget - left);
+        }
+        depth -= 1;
+        n = wide(stack[depth]);
+        at = wide(marks[depth]);
+        r = rule_of(tree, n);
     }
-    Ran::Done(count)
 }

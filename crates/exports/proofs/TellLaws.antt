@@ -9,6 +9,7 @@ use Rattle.refusals.specs.Numbers.{numberOf, placeOf, secondOf}
 use Rattle.plans.specs.declared.Planned as P
 use Rattle.planner.specs.Answered as planner
 use Rattle.runs.specs.declared.Ran as R
+use Rattle.runs.specs.declared.Report.{Report}
 use Rattle.runner.specs.Answered as runner
 use Rattle.exports.specs.Told.{Told, counted, refused, planTold, runTold, planning, running}
 use Rattle.exports.specs.Answered.{PlanAnswered, RunAnswered}
@@ -46,8 +47,8 @@ module _ (g rows plan : List ℕ) (planned : P.Planned) (rows′ plan′ : List 
   plan-refused r s a b c e status number place second =
       plan-told s 0 a b c (tells-refusal (planning g rows plan) r s a b c (ap planTold (sym e ∙ w .answers)) status number place second)
 
-module _ (g rows plan t : List ℕ) (vs : List ℤ) (budget : ℕ) (ran : R.Ran) (vs′ : List ℤ) (rows′ plan′ : List ℕ)
-    (w : runner.Answered g rows plan t vs budget ran vs′ rows′ plan′) where
+module _ (g rows plan t : List ℕ) (vs : List ℤ) (budget : ℕ) (report : Report) (vs′ : List ℤ) (rows′ plan′ : List ℕ)
+    (w : runner.Answered g rows plan t vs budget report vs′ rows′ plan′) where
   run-told : (s n a b c : ℕ) → Tells (running g rows plan t vs budget) s n a b c → RunAnswered g rows plan t vs budget s n a b c vs′ rows′ plan′
   run-told s n a b c t =
       record {
@@ -55,13 +56,13 @@ module _ (g rows plan t : List ℕ) (vs : List ℤ) (budget : ℕ) (ran : R.Ran)
           valuesAre = w .valuesAre; rowsAre = w .rowsAre; planIs = w .planIs
       }
 
-  pub run-done : (n : ℕ) → ran ≡ R.the-variants.Done n → RunAnswered g rows plan t vs budget 0 n 0 0 0 vs′ rows′ plan′
+  pub run-done : (n : ℕ) → report .ran ≡ R.the-variants.Done n → RunAnswered g rows plan t vs budget 0 n 0 0 0 vs′ rows′ plan′
   run-done n e = run-told 0 n 0 0 0 (tells-count (running g rows plan t vs budget) 0 n (ap runTold (sym e ∙ w .answers)))
 
-  pub run-stopped : (n : ℕ) → ran ≡ R.the-variants.Stopped n → RunAnswered g rows plan t vs budget 1 n 0 0 0 vs′ rows′ plan′
+  pub run-stopped : (n : ℕ) → report .ran ≡ R.the-variants.Stopped n → RunAnswered g rows plan t vs budget 1 n 0 0 0 vs′ rows′ plan′
   run-stopped n e = run-told 1 n 0 0 0 (tells-count (running g rows plan t vs budget) 1 n (ap runTold (sym e ∙ w .answers)))
 
-  pub run-refused : (r : Refusal) (s a b c : ℕ) → ran ≡ R.the-variants.Refused r → s ≡ 2 → a ≡ numberOf r → b ≡ placeOf r → c ≡ secondOf r
+  pub run-refused : (r : Refusal) (s a b c : ℕ) → report .ran ≡ R.the-variants.Refused r → s ≡ 2 → a ≡ numberOf r → b ≡ placeOf r → c ≡ secondOf r
       → RunAnswered g rows plan t vs budget s 0 a b c vs′ rows′ plan′
   run-refused r s a b c e status number place second =
       run-told s 0 a b c

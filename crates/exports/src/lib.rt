@@ -49,7 +49,8 @@ pub extern "C" fn skarnuth_plan(words: &[u16], rows: &mut [u64], plan: &mut [u16
 pub extern "C" fn skarnuth_run(words: &[u16], rows: &mut [u64], plan: &mut [u16], tree: &[u16], values: &mut [i32], budget: u32, count: &mut u64, number: &mut u64, place: &mut u64, second: &mut u64) -> u32
     ensures { λ r. ⌜ answered.RunAnswered (now (words .entry)) (now (rows .entry)) (now (plan .entry)) (now (tree .entry)) (now (values .entry)) budget r (now (count .exit)) (now (number .exit)) (now (place .exit)) (now (second .exit)) (now (values .exit)) (now (rows .exit)) (now (plan .exit)) ⌝ }
 {
-    let ran = runner::run(words, rows, plan, tree, values, budget);
+    let report = runner::run(words, rows, plan, tree, values, budget);
+    let ran = report.ran;
     *count = 0;
     *number = 0;
     *place = 0;

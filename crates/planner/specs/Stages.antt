@@ -6,6 +6,7 @@ use mathlib.Core.Bool.{false}
 use mathlib.Core.List.{List}
 use lib.ListN.{length}
 use Rattle.basics.specs.Lists.{padded}
+use Rattle.grammar.specs.declared.Verdict.{Verdict}
 use Rattle.grammar.specs.declared.Verdict.the-variants.{Good}
 use Rattle.grammar.specs.Table.{rules}
 use Rattle.grammar.specs.Reading.{readTable}
@@ -20,6 +21,11 @@ use Rattle.plans.specs.Answer.{Outcome, room, idpPaths, edpPaths, afterRoom, af
 -- the set words of a table
 abbrev pub sets : List ℕ → List ℕ
 sets g = setsOf g (idsOf g)
+
+-- what reading answers of a table: its verdict, and where the rules start
+pub record Reads (g : List ℕ) (verdict : Verdict) (offsets : List ℕ) : Type 0 where
+  pub verdictIs : verdict ≡ readTable g
+  pub offsetsAre : offsets ≡ offsetsFor g (readTable g)
 
 -- the table is accepted and the buffers have room
 pub record Read (g offsets : List ℕ) (rowsLength planLength : ℕ) : Type 0 where

@@ -70,12 +70,11 @@ fn plan_relations(words: &[u16], offsets: &Offsets, rows: &mut [u64], plan: &mut
     plan_noncircular(words, offsets, &ids, rows, plan)
 }
 
-// Plans a grammar. What a refusal leaves in the buffers is what the definitions say of the outcome.
-pub fn plan(words: &[u16], rows: &mut [u64], plan: &mut [u16]) -> Planned
+// Plans a grammar whose reading is at hand, so that a caller who needs the offsets again reads the table once.
+pub fn plan_read(words: &[u16], verdict: Verdict, offsets: &[u16; 64], rows: &mut [u64], plan: &mut [u16]) -> Planned
+    requires { ⌜ ready.Reads (now words) verdict (now offsets) ⌝ }
     ensures { λ r. ⌜ answered.Answered (now (words .entry)) (now (rows .entry)) (now (plan .entry)) r (now (rows .exit)) (now (plan .exit)) ⌝ }
 {
-    let reading = reading::read(words);
-    let verdict = reading.verdict;
     if let Verdict::Refused(refusal) = verdict {
         return Planned::Refused(refusal);
     }
@@ -83,5 +82,14 @@ pub fn plan(words: &[u16], rows: &mut [u64], plan: &mut [u16]) -> Planned
     if let Verdict::Refused(refusal) = space {
         return Planned::Refused(refusal);
     }
-    plan_relations(words, &reading.offsets, rows, plan)
+    plan_relations(words, offsets, rows, plan)
+}
+
+// Plans a grammar. What a refusal leaves in the buffers is what the definitions say of the outcome.
+pub fn plan(words: &[u16], rows: &mut [u64], plan: &mut [u16]) -> Planned
+    ensures { λ r. ⌜ answered.Answered (now (words .entry)) (now (rows .entry)) (now (plan .entry)) r (now (rows .exit)) (now (plan .exit)) ⌝ }
+{
+    let reading = reading::read(words);
+    let verdict = reading.verdict;
+    plan_read(words, verdict, &reading.offsets, rows, plan)
 }

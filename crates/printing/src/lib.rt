@@ -2,6 +2,7 @@
 use libc::STDOUT_FILENO;
 use refusals::Refusal;
 use runs::Ran;
+use runs::Report;
 
 ghost use mathlib.Core.Path.{_≡_};
 ghost use lib.IntN.{natAbs};
@@ -51,7 +52,8 @@ fn refusal(r: Refusal) {
 }
 
 // What a run answered.
-pub fn answer(ran: Ran) {
+pub fn answer(report: Report) {
+    let ran = report.ran;
     match ran {
         Ran::Done(count) => {
             word(b"done");

@@ -64,8 +64,8 @@ fn run_part(tree: &[u16], words: usize, values: &mut [i32], room: usize)
 {
     let mut rows = [ROW; 200];
     let mut plan = [WORD; 600];
-    let ran = runner::run(&G, &mut rows, &mut plan, &tree[..words], &mut values[..room], 100);
-    printing::answer(ran);
+    let report = runner::run(&G, &mut rows, &mut plan, &tree[..words], &mut values[..room], 100);
+    printing::answer(report);
     printing::word(b" values");
     printing::number(values_changed(values));
     printing::word(b" rows");

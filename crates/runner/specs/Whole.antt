@@ -8,9 +8,11 @@ use lib.ListN.{length}
 use Rattle.grammar.specs.declared.Verdict.the-variants.{Good}
 use Rattle.grammar.specs.Table.{rules}
 use Rattle.grammar.specs.Reading.{readTable}
+use Rattle.access.specs.Offsets.{offsetsFor}
 use Rattle.plans.specs.Answer.{Outcome, accepted, outcome, planAfter}
 use Rattle.trees.specs.Checking.{checkTree}
 use Rattle.runs.specs.declared.Ran as R
+use Rattle.runs.specs.declared.Report.{Report}
 use Rattle.runs.specs.Sound as sound
 use Rattle.runs.specs.Run.{runAnswer, valuesAfter}
 
@@ -30,13 +32,14 @@ unfoldable pub values : List ℕ → List ℕ → List ℕ → List ℕ → List
 values g rows plan t vs budget =
     valuesAfter g (leftPlan g rows plan) t (came g rows plan) (checkTree g t (length vs)) vs budget
 
--- p is a plan that can be run: the table is accepted, the plan is sound and none of it is missing
-pub record Planned (g p : List ℕ) : Type 0 where
+-- p is a plan that can be run, whoever drew it up: the table is accepted, its rules start at the offsets, the plan is sound and none of it is missing
+pub record Runnable (g offsets p : List ℕ) : Type 0 where
   pub good : readTable g ≡ Good
+  pub starts : offsets ≡ offsetsFor g Good
   pub soundPlan : sound.Sound g p
   pub long : 256 + 112 * rules g ≤ length p
 
 -- what the check of the tree and the run of plan p answer and leave
-pub record Checked (g p t : List ℕ) (vs : List ℤ) (budget : ℕ) (ran : R.Ran) (vs′ : List ℤ) : Type 0 where
-  pub answers : ran ≡ runAnswer g p t accepted (checkTree g t (length vs)) vs budget
+pub record Checked (g p t : List ℕ) (vs : List ℤ) (budget : ℕ) (report : Report) (vs′ : List ℤ) : Type 0 where
+  pub answers : report .ran ≡ runAnswer g p t accepted (checkTree g t (length vs)) vs budget
   pub valuesAre : vs′ ≡ valuesAfter g p t accepted (checkTree g t (length vs)) vs budget

@@ -1,4 +1,4 @@
-// The run of a plan over a tree. `Ran` is what a run answers; the definitions of `specs/` say which.
+// The run of a plan over a tree. `Report` is what a run answers, and `Ran` how it came out; the definitions of `specs/` say which.
 use refusals::Refusal;
 
 pub enum Ran {
@@ -7,4 +7,8 @@ pub enum Ran {
     // The budget, after which the run stopped.
     Stopped(u32),
     Refused(Refusal),
+}
+
+pub struct Report {
+    pub ran: Ran,
 }

@@ -47,11 +47,11 @@ fn run_two_lines(first: i32, second: i32, budget: u32) {
     let mut values = [BEFORE; 40];
     values[16] = first;
     values[32] = second;
-    let ran = runner::run(&G, &mut rows, &mut plan, &TWO_LINES, &mut values, budget);
+    let report = runner::run(&G, &mut rows, &mut plan, &TWO_LINES, &mut values, budget);
     printing::word(b"budget");
     printing::number(budget as u64);
     printing::word(b" ");
-    printing::answer(ran);
+    printing::answer(report);
     print_two_lines(&values);
     printing::end_line();
 }
@@ -136,11 +136,11 @@ fn run_large(words: &[u16], tree: &[u16], nodes: usize, last: usize, budget: u32
     let mut plan = [0u16; 592];
     let mut values = [4i32; 8192];
     values[4096] = 7;
-    let ran = runner::run(words, &mut rows, &mut plan, &tree[..end], &mut values, budget);
+    let report = runner::run(words, &mut rows, &mut plan, &tree[..end], &mut values, budget);
     printing::word(b"nodes");
     printing::number(nodes as u64);
     printing::word(b" ");
-    printing::answer(ran);
+    printing::answer(report);
     print_ends(&values, last);
     printing::end_line();
 }

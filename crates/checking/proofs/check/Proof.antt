@@ -1,5 +1,6 @@
 -- `checking::check` meets its contract: each test that fails is the first that does, since those before it passed. Assumes nothing.
-use Rattle.checking.proofs.WholeCheckLaws.{few-nodes, root-known, known-all, passed-15, answer-12, answer-13, answer-15, answer-16, answer-17, answer-18, answer-good}
+use Rattle.checking.proofs.WholeCheckLaws.{some-node, few-nodes, root-known, known-all, passed-15, answer-12, answer-13, answer-15, answer-16, answer-17, answer-18, answer-good}
+use Rattle.checking.proofs.NodeTestLaws.{start-room}
 use borrow.Author.Tests.{not-true, not-false}
 use borrow.Author.Needs.{needs}
 use Rattle.checking.proofs.check.Statement.{statement}
@@ -12,7 +13,7 @@ returns : tie.Need-returns
 returns c = search (answer-12, not-true)
 
 nodes-fault-requires : tie.Need-nodes-fault-requires
-nodes-fault-requires c κs = (search needs, search (few-nodes, not-false))
+nodes-fault-requires c κs = (search needs, (search (few-nodes, not-false), search needs))
 
 enum-told : tie.Need-enum-told
 enum-told c = search needs
@@ -24,10 +25,10 @@ returns-2 : tie.Need-returns-2
 returns-2 c = search (answer-13, not-false)
 
 symbol-at-node-requires : tie.Need-symbol-at-node-requires
-symbol-at-node-requires c κs = (search needs, (search (root-known, not-false), search needs))
+symbol-at-node-requires c κs = (search needs, (search (root-known, not-false), (search needs, search (some-node, not-false))))
 
 word-requires : tie.Need-word-requires
-word-requires c κs = search needs
+word-requires c κs = search start-room
 
 returns-3 : tie.Need-returns-3
 returns-3 c = search (answer-15, not-false)

@@ -1,13 +1,10 @@
--- `checking::child_fits` meets its contract. Assumes nothing.
+-- `checking::child_fits` meets its contract: a used slot names a node that the first walk found known, so its symbol can be read, and the test is
+-- whether that is the symbol of the slot in the rule.
+-- Assumes nothing.
 use Rattle.checking.proofs.NodeTestLaws.{child-known, child-test}
 use borrow.Author.Needs.{needs}
 use Rattle.checking.proofs.child_fits.Statement.{statement}
 use Rattle.checking.proofs.child_fits.Tie as tie
-use Rattle.checking.proofs.child_fits.Reads as reads
-use Rattle.checking.proofs.child_fits.Lts as lts
-use Rattle.checking.proofs.symbol_at_node.Reads as symbol-at-node-reads
-use Rattle.access.proofs.symbol_of.Reads as symbol-of-reads
-use Rattle.access.proofs.word.Reads as word-reads
 
 mul-word : tie.Need-mul-word
 mul-word c = search needs
@@ -20,16 +17,17 @@ word-requires c κs = search needs
 
 symbol-at-node-requires : tie.Need-symbol-at-node-requires
 symbol-at-node-requires c κs =
-    (c .before .before .before .pre .0, child-known _ _ _ _ _ _ (c .before .before .before .pre .1 .0) (c .before .before .before .pre .1
-    .1) (c .word .ensures .0))
+    let entry = c .before .before .before in
+    (entry .pre .0, child-known _ _ _ _ _ _ (entry .pre .1 .0) (entry .pre .1 .1) (c .word .ensures .0))
 
 symbol-of-requires : tie.Need-symbol-of-requires
 symbol-of-requires c κs = search needs
 
 returns : tie.Need-returns
 returns c =
-    child-test _ _ _ _ _ _ _ _ (c .before .before .before .before .before .pre .1 .1) (c .before .before .word .ensures .0) (c .before
-    .symbol-at-node .ensures) (c .symbol-of .ensures .0)
+    let read = c .before .before in
+    let entry = read .before .before .before in
+    child-test _ _ _ _ _ _ _ _ (entry .pre .1 .1) (read .word .ensures .0) (c .before .symbol-at-node .ensures) (c .symbol-of .ensures .0)
 
 pub child-fits-spec : {M : Type 1} → statement M
 child-fits-spec =

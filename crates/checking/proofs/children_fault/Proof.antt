@@ -1,4 +1,5 @@
--- `checking::children_fault` meets its contract. Assumes nothing.
+-- `checking::children_fault` meets its contract: the walk goes on past every node that fits, so the first that does not is the one that is answered.
+-- Assumes nothing.
 use Rattle.refusals.specs.declared.Refusal.the-variants.{ChildDiffers}
 use borrow.Author.Needs.{needs}
 use Prim.Native.Nat.{_≤_, _-_}
@@ -12,9 +13,6 @@ use Rattle.checking.specs.Walk.{childrenFault}
 use Rattle.checking.proofs.NodeTestLaws.{children-passed, children-refused}
 use Rattle.checking.proofs.children_fault.Statement.{statement}
 use Rattle.checking.proofs.children_fault.Tie as tie
-use Rattle.checking.proofs.children_fault.Reads as reads
-use Rattle.checking.proofs.children_fault.Lts as lts
-use Rattle.checking.proofs.children_fit.Reads as children-fit-reads
 
 abbrev Inv-loop : tie.InvT-loop
 Inv-loop words offsets t nodes n₀ n = (n ≤ nodes) × (each n (λ m. childrenFault words t m) ≡ Good)

@@ -1,14 +1,12 @@
--- `checking::count_names` meets its contract. Assumes nothing.
+-- `checking::count_names` meets its contract: the invariant CountedTo says that the counts are those of the nodes so far; a node adds what its
+-- used slots name.
+-- Assumes nothing.
 use borrow.Author.Needs.{needs}
 use Prim.Native.Nat.{_-_}
 use native.Mathlib.Omega.{arith}
 use Rattle.checking.proofs.NameLaws.{CountedTo, counted-start, counted-known, counted-naming, counted-turn, counted-finish}
 use Rattle.checking.proofs.count_names.Statement.{statement}
 use Rattle.checking.proofs.count_names.Tie as tie
-use Rattle.checking.proofs.count_names.Reads as reads
-use Rattle.checking.proofs.count_names.Lts as lts
-use Rattle.checking.proofs.name_children.Reads as name-children-reads
-use Rattle.checking.proofs.used_slots.Reads as used-slots-reads
 
 abbrev Inv-loop : tie.InvT-loop
 Inv-loop words offsets t nodes named₀ n₀ named n = CountedTo words t named n
@@ -23,8 +21,10 @@ slice-aggregate-name-children : tie.Need-slice-aggregate-name-children Inv-loop 
 slice-aggregate-name-children c = search needs
 
 used-slots-requires : tie.Need-used-slots-requires Inv-loop μ-loop
-used-slots-requires c κs = 
-    (c .before .before .before .before .before .pre .0, counted-known (c .before .before .before .before .before .args .words .now) (c .before .before .before .before .before .args .t .now) (c .before .before .loop .named) (c .before .before .loop .n) (c .before .before .loop .inv) (omega arith))
+used-slots-requires c κs =
+    let turn = c .before .before in
+    let entry = turn .before .before .before in
+    (entry .pre .0, counted-known _ _ _ _ (turn .loop .inv) (omega arith))
 
 name-children-requires : tie.Need-name-children-requires Inv-loop μ-loop
 name-children-requires c κs =
@@ -38,8 +38,9 @@ loop-less c = search needs
 
 loop-again : tie.Need-loop-again Inv-loop μ-loop
 loop-again c =
-    counted-turn _ _ _ _ _ _ (c .before .before .before .before .before .loop .inv) (omega arith) (c .before .before .used-slots .ensures
-    .0) (c .before .before .used-slots .ensures .1) (c .before .name-children .ensures)
+    let used = c .before .before in
+    counted-turn _ _ _ _ _ _ (used .before .before .before .loop .inv) (omega arith) (used .used-slots .ensures .0) (used .used-slots .ensures .1)
+    (c .before .name-children .ensures)
 
 returns : tie.Need-returns Inv-loop μ-loop
 returns c = counted-finish _ _ _ _ _ (c .before .loop .inv) (c .before .before .before .before .pre .1 .1) (omega arith)

@@ -1,12 +1,9 @@
--- `checking::known_word` meets its contract. Assumes nothing.
-use Rattle.checking.proofs.NodeTestLaws.{known-rule, known-terminal, known-nothing}
+-- `checking::known_word` meets its contract: a word below 32,768 is a rule if there are so many, and one above it a terminal if the symbol that it
+-- names is there and is none. Assumes nothing.
+use Rattle.checking.proofs.NodeTestLaws.{rules-room, symbols-room, known-rule, known-terminal, known-nothing}
 use borrow.Author.Needs.{needs}
 use Rattle.checking.proofs.known_word.Statement.{statement}
 use Rattle.checking.proofs.known_word.Tie as tie
-use Rattle.checking.proofs.known_word.Reads as reads
-use Rattle.checking.proofs.known_word.Lts as lts
-use Rattle.access.proofs.nonterminal.Reads as nonterminal-reads
-use Rattle.access.proofs.word.Reads as word-reads
 
 mul-word : tie.Need-mul-word
 mul-word c = search needs
@@ -15,13 +12,13 @@ word-requires : tie.Need-word-requires
 word-requires c κs = search needs
 
 word-requires-2 : tie.Need-word-requires-2
-word-requires-2 c κs = search needs
+word-requires-2 c κs = search rules-room
 
 returns : tie.Need-returns
 returns c = search known-rule
 
 word-requires-3 : tie.Need-word-requires-3
-word-requires-3 c κs = search needs
+word-requires-3 c κs = search symbols-room
 
 nonterminal-requires : tie.Need-nonterminal-requires
 nonterminal-requires c κs = search needs

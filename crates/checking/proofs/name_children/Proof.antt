@@ -1,13 +1,12 @@
--- `checking::name_children` meets its contract. Assumes nothing.
+-- `checking::name_children` meets its contract: the invariant NamedTo says that each count has grown by the slots so far that name its node. A node has at
+-- most seven, so no count passes 16 bits.
+-- Assumes nothing.
 use borrow.Author.Needs.{needs}
 use Prim.Native.Nat.{_-_}
 use native.Mathlib.Omega.{arith}
 use Rattle.checking.proofs.NameLaws.{NamedTo, named-start, named-inside, named-fits, named-turn, named-finish}
 use Rattle.checking.proofs.name_children.Statement.{statement}
 use Rattle.checking.proofs.name_children.Tie as tie
-use Rattle.checking.proofs.name_children.Reads as reads
-use Rattle.checking.proofs.name_children.Lts as lts
-use Rattle.access.proofs.word.Reads as word-reads
 
 abbrev Inv-loop : tie.InvT-loop
 Inv-loop named₀ t n used i₀ named i = NamedTo named₀ t n used named i

@@ -1,10 +1,9 @@
--- `checking::named_once` meets its contract. Assumes nothing.
+-- `checking::named_once` meets its contract: the root is exempt, and for another node the test is 01's.
+-- Assumes nothing.
 use Rattle.checking.proofs.NameLaws.{once-root, once-other}
 use borrow.Author.Needs.{needs}
 use Rattle.checking.proofs.named_once.Statement.{statement}
 use Rattle.checking.proofs.named_once.Tie as tie
-use Rattle.checking.proofs.named_once.Reads as reads
-use Rattle.checking.proofs.named_once.Lts as lts
 
 returns : tie.Need-returns
 returns c = search once-root

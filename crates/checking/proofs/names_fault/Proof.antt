@@ -1,4 +1,5 @@
--- `checking::names_fault` meets its contract. Assumes nothing.
+-- `checking::names_fault` meets its contract: the walk goes on past every node that is named once, so the first that is not is the one that is answered.
+-- Assumes nothing.
 use borrow.Author.Needs.{needs}
 use Prim.Native.Nat.{_≤_, _-_}
 use mathlib.Core.Path.{_≡_, refl}
@@ -12,9 +13,6 @@ use Rattle.checking.specs.Walk.{namedFault}
 use Rattle.checking.proofs.NameLaws.{named-passed, named-refused}
 use Rattle.checking.proofs.names_fault.Statement.{statement}
 use Rattle.checking.proofs.names_fault.Tie as tie
-use Rattle.checking.proofs.names_fault.Reads as reads
-use Rattle.checking.proofs.names_fault.Lts as lts
-use Rattle.checking.proofs.named_once.Reads as named-once-reads
 
 abbrev Inv-loop : tie.InvT-loop
 Inv-loop named nodes n₀ n = (n ≤ nodes) × (each n (λ m. namedFault named m) ≡ Good)

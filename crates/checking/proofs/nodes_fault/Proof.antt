@@ -1,4 +1,5 @@
--- `checking::nodes_fault` meets its contract. Assumes nothing.
+-- `checking::nodes_fault` meets its contract: the walk goes on past every node without a fault, so the first fault is the one that is answered.
+-- Assumes nothing.
 use native.Mathlib.Omega.{arith}
 use borrow.Author.Needs.{needs}
 use Prim.Native.Nat.{_≤_, _-_}
@@ -9,9 +10,6 @@ use Rattle.trees.specs.Checking.{nodeFault}
 use Rattle.access.proofs.Laws.{each-none, each-more, each-stop, each-end}
 use Rattle.checking.proofs.nodes_fault.Statement.{statement}
 use Rattle.checking.proofs.nodes_fault.Tie as tie
-use Rattle.checking.proofs.nodes_fault.Reads as reads
-use Rattle.checking.proofs.nodes_fault.Lts as lts
-use Rattle.checking.proofs.node_fault.Reads as node-fault-reads
 
 abbrev Inv-loop : tie.InvT-loop
 Inv-loop words offsets t nodes n₀ n = (n ≤ nodes) × (each n (λ m. nodeFault words t m) ≡ Good)

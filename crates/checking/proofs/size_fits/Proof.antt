@@ -1,9 +1,8 @@
--- `checking::size_fits` meets its contract. Assumes nothing.
+-- `checking::size_fits` meets its contract: each way out is the first of the three tests that fails, or the last test itself.
+-- Assumes nothing.
 use Rattle.checking.proofs.NodeTestLaws.{size-all, size-none, size-part}
 use Rattle.checking.proofs.size_fits.Statement.{statement}
 use Rattle.checking.proofs.size_fits.Tie as tie
-use Rattle.checking.proofs.size_fits.Reads as reads
-use Rattle.checking.proofs.size_fits.Lts as lts
 
 returns : tie.Need-returns
 returns c = search size-all

@@ -1,11 +1,9 @@
--- `checking::slot_fits` meets its contract. Assumes nothing.
+-- `checking::slot_fits` meets its contract: a used slot is above its node and a node, an unused one is zero; each way out is one of these.
+-- Assumes nothing.
 use Rattle.checking.proofs.NodeTestLaws.{slot-inside, slot-low, slot-unused}
 use borrow.Author.Needs.{needs}
 use Rattle.checking.proofs.slot_fits.Statement.{statement}
 use Rattle.checking.proofs.slot_fits.Tie as tie
-use Rattle.checking.proofs.slot_fits.Reads as reads
-use Rattle.checking.proofs.slot_fits.Lts as lts
-use Rattle.access.proofs.word.Reads as word-reads
 
 mul-word : tie.Need-mul-word
 mul-word c = search needs

@@ -1,4 +1,5 @@
--- `checking::slots_fit` meets its contract. Assumes nothing.
+-- `checking::slots_fit` meets its contract: the invariant says that the slots so far fit; the first that does not settles the test of all seven.
+-- Assumes nothing.
 use native.Mathlib.Omega.{arith}
 use borrow.Author.Tests.{not-true, not-false}
 use borrow.Author.Needs.{needs}
@@ -9,9 +10,6 @@ use Rattle.checking.specs.Walk.{slotTestsTo}
 use Rattle.checking.proofs.NodeTestLaws.{slots-none, slots-more, slots-stop, slots-end}
 use Rattle.checking.proofs.slots_fit.Statement.{statement}
 use Rattle.checking.proofs.slots_fit.Tie as tie
-use Rattle.checking.proofs.slots_fit.Reads as reads
-use Rattle.checking.proofs.slots_fit.Lts as lts
-use Rattle.checking.proofs.slot_fits.Reads as slot-fits-reads
 
 abbrev Inv-loop : tie.InvT-loop
 Inv-loop t n used i₀ i = (i ≤ 7) × (slotTestsTo t n used i ≡ true)

@@ -1,23 +1,45 @@
 -- `evaluating::argument_value` meets its contract: the word names an occurrence, the occurrence its cell, and the cell its value, which is read back whole.
 -- Assumes nothing.
+use native.Mathlib.Omega.{arith}
+use Rattle.evaluating.proofs.PlaceLaws.{named-cell, named-value}
 use borrow.Author.Needs.{needs}
-use Rattle.evaluating.proofs.PlaceLaws.{named-value}
 use Rattle.evaluating.proofs.argument_value.Statement.{statement}
 use Rattle.evaluating.proofs.argument_value.Tie as tie
 
-word-requires : tie.Need-word-requires
-word-requires c κs = search needs
+mul-wide : tie.Need-mul-wide
+mul-wide c = search needs
+
+shared-slice-read-wide : tie.Need-shared-slice-read-wide
+shared-slice-read-wide c = search needs
+
+wide-requires : tie.Need-wide-requires
+wide-requires c κs = search needs
 
 cell-requires : tie.Need-cell-requires
 cell-requires c κs = search needs
 
-value-requires : tie.Need-value-requires
-value-requires c κs = search needs
+mul-result : tie.Need-mul-result
+mul-result c =
+    let entry = c .before .before .before .before in
+    omega (arith, named-cell (entry .before .pre) (c .before .wide .ensures .0) (c .cell .ensures))
+
+shared-slice-copy-out-result : tie.Need-shared-slice-copy-out-result
+shared-slice-copy-out-result c = search named-cell
 
 returns : tie.Need-returns
 returns c =
-    named-value _ (c .before .before .before .before .before .args .values .now) _ _ (c .before .before .word .ensures .0) (c .before .cell
-    .ensures) (c .value .ensures) (c .value .ok)
+    let read = c .before .before in
+    let entry = read .before .before .before .before in
+    named-value _ (entry .args .values .now) _ _ (read .wide .ensures .0) (c .before .cell .ensures) (c .result .given)
 
 pub argument-value-spec : {M : Type 1} → statement M
-argument-value-spec = tie.close (tie.spec word-requires cell-requires value-requires returns)
+argument-value-spec =
+    tie.close
+    (tie.spec
+    mul-wide
+    shared-slice-read-wide
+    wide-requires
+    cell-requires
+    mul-result
+    shared-slice-copy-out-result
+    returns)

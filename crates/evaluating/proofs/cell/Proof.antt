@@ -1,6 +1,6 @@
 -- `evaluating::cell` meets its contract: eight values a node, those of the node at the occurrence's position. Assumes nothing.
-use borrow.Author.Needs.{needs}
 use Rattle.evaluating.proofs.PlaceLaws.{cell-from}
+use borrow.Author.Needs.{needs}
 use Rattle.evaluating.proofs.cell.Statement.{statement}
 use Rattle.evaluating.proofs.cell.Tie as tie
 

@@ -21,8 +21,8 @@ same-length c = search needs
 
 returns : tie.Need-returns
 returns c =
-    compute-writes _ _ (c .before .before .before .before .before .args .values .now) _ _ _ _ _ (c .before .function-value .ensures) (c
-    .before .function-value .ok) (c .cell .ensures)
+    let entry = c .before .before .before .before in
+    compute-writes _ _ (entry .before .args .values .now) _ _ _ _ _ (c .before .function-value .ensures) (c .before .function-value .ok) (c .cell .ensures)
 
 pub compute-spec : {M : Type 1} → statement M
 compute-spec =

@@ -20,23 +20,23 @@ word-requires : tie.Need-word-requires Inv-loop μ-loop
 word-requires c κs = search needs
 
 loop-holds : tie.Need-loop-holds Inv-loop μ-loop
-loop-holds c = ((c .word .ensures .0), all-start _ _ (c .before .before .pre .0) (c .before .before .pre .1))
+loop-holds c = ((c .word .ensures .0), all-start _ _ _ (c .before .before .pre .0) (c .before .before .pre .1 .0) (c .before .before .pre .1 .1))
 
 mul-wide : tie.Need-mul-wide Inv-loop μ-loop
 mul-wide c = search needs
 
 element-copy-out-wide : tie.Need-element-copy-out-wide Inv-loop μ-loop
 element-copy-out-wide c =
-    omega (arith, (c .before .loop .inv .1 .inside), accepted (c .before .before .before .before .args .words .now) (c .before .loop .inv
-    .1 .good) .rulesFit)
+    let start = c .before .before .before .before in
+    omega (arith, c .before .loop .inv .1 .inside, accepted (start .args .words .now) (c .before .loop .inv .1 .good) .rulesFit)
 
 wide-requires : tie.Need-wide-requires Inv-loop μ-loop
 wide-requires c κs = search needs
 
 locate-rule-requires : tie.Need-locate-rule-requires Inv-loop μ-loop
 locate-rule-requires c κs =
-    ((c .before .before .before .before .loop .inv .1 .good), ((omega arith, (c .before .wide .ensures .0) ∙ offset-is _ _ _ _ (c .before
-    .before .before .before .loop .inv .1) (omega arith)), (c .before .before .before .before .loop .inv .1 .size)))
+    let inv = c .before .before .before .before .loop .inv .1 in
+    (inv .good, ((omega arith, c .before .wide .ensures .0 ∙ offset-is _ _ _ _ inv (omega arith)), inv .size))
 
 add-r : tie.Need-add-r Inv-loop μ-loop
 add-r c = search needs
@@ -46,8 +46,8 @@ loop-less c = search needs
 
 loop-again : tie.Need-loop-again Inv-loop μ-loop
 loop-again c =
-    ((c .before .before .before .before .before .loop .inv .0), all-turn _ _ _ _ (c .locate-rule .last .1 .1 .1 .0) (c .before .before
-    .before .before .before .loop .inv .1) (omega arith) (c .locate-rule .ensures))
+    let turn = c .before .before .before .before in
+    (turn .before .loop .inv .0, all-turn _ _ _ _ (c .locate-rule .last .1 .1 .1 .0) (turn .before .loop .inv .1) (omega arith) (c .locate-rule .ensures))
 
 returns : tie.Need-returns Inv-loop μ-loop
 returns c = all-finish _ _ _ _ _ (c .before .loop .inv .1) (c .before .loop .inv .0) (c .loop-test .left)

@@ -1,12 +1,15 @@
 -- `runner::run` meets its contract: what planning refuses is refused, and where it accepts, what it wrote is a sound plan to run.
 -- Assumes nothing.
-use Rattle.runner.proofs.WholeRunLaws.{run-planned, run-refused, run-ran}
+use Rattle.runner.proofs.WholeRunLaws.{runnable, run-refused, run-ran}
 use borrow.Author.Needs.{needs}
 use Rattle.runner.proofs.run.Statement.{statement}
 use Rattle.runner.proofs.run.Tie as tie
 
-plan-requires : tie.Need-plan-requires
-plan-requires c κs = search needs
+read-requires : tie.Need-read-requires
+read-requires c κs = search needs
+
+plan-read-requires : tie.Need-plan-read-requires
+plan-read-requires c κs = search needs
 
 enum-known-planned : tie.Need-enum-known-planned
 enum-known-planned c = search needs
@@ -23,8 +26,8 @@ returns c = search run-refused
 enum-told : tie.Need-enum-told
 enum-told c = search needs
 
-run-planned-requires : tie.Need-run-planned-requires
-run-planned-requires c κs = search run-planned
+run-sound-requires : tie.Need-run-sound-requires
+run-sound-requires c κs = search runnable
 
 same-length-3 : tie.Need-same-length-3
 same-length-3 c = search needs
@@ -42,13 +45,14 @@ pub run-spec : {M : Type 1} → statement M
 run-spec =
     tie.close
     (tie.spec
-    plan-requires
+    read-requires
+    plan-read-requires
     enum-known-planned
     same-length
     same-length-2
     returns
     enum-told
-    run-planned-requires
+    run-sound-requires
     same-length-3
     same-length-4
     same-length-5

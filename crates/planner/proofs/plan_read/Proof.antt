@@ -1,12 +1,9 @@
--- `planner::plan` meets its contract: a fault of the table or of the room is refused with nothing written, and what follows comes after 8.
+-- `planner::plan_read` meets its contract: a fault of the table or of the room is refused with nothing written, and what follows comes after 8.
 -- Assumes nothing.
 use Rattle.planner.proofs.StageLaws.{read-refused, room-refused, ready-read, relations-answered}
 use borrow.Author.Needs.{needs}
-use Rattle.planner.proofs.plan.Statement.{statement}
-use Rattle.planner.proofs.plan.Tie as tie
-
-read-requires : tie.Need-read-requires
-read-requires c κs = search needs
+use Rattle.planner.proofs.plan_read.Statement.{statement}
+use Rattle.planner.proofs.plan_read.Tie as tie
 
 enum-known-verdict : tie.Need-enum-known-verdict
 enum-known-verdict c = search needs
@@ -41,11 +38,10 @@ same-length-2 c = search needs
 returns-3 : tie.Need-returns-3
 returns-3 c = search relations-answered
 
-pub plan-spec : {M : Type 1} → statement M
-plan-spec =
+pub plan-read-spec : {M : Type 1} → statement M
+plan-read-spec =
     tie.close
     (tie.spec
-    read-requires
     enum-known-verdict
     returns
     enum-told
