@@ -84,15 +84,25 @@ pub struct Table {
 impl Table {
     /// The parts of words that can be read, else none.
     pub fn read(words: &[u16]) -> Option<Table> {
-        let g = Grammar::read(words).ok()?;
-        let symbols = g.symbols.iter().map(|s| (s.terminal as usize, s.attributes, s.inherited as usize)).collect();
-        let function = |f: &crate::grammar::Function| Function {
-            target: f.target as usize,
-            op: f.op as usize,
-            args: f.args[..arity(f.op as usize)].to_vec(),
-        };
-        let rule = |r: &crate::grammar::Rule| Rule { symbols: r.symbols.clone(), functions: r.functions.iter().map(function).collect() };
-        Some(Table { start: g.start, symbols, rules: g.rules.iter().map(rule).collect() })
+        Grammar::read(words).ok()?;
+        let mut rest = words.iter().map(|&w| w as usize);
+        let mut next = || rest.next().unwrap();
+        let (count, rules, start) = (next(), next(), next());
+        let symbols = (0..count).map(|_| (next(), next(), next())).collect();
+        let rules = (0..rules)
+            .map(|_| {
+                let (left, right) = (next(), next());
+                let symbols = std::iter::once(left).chain((0..right).map(|_| next())).collect();
+                let functions = (0..next())
+                    .map(|_| {
+                        let (target, op) = (next(), next());
+                        Function { target, op, args: (0..arity(op)).map(|_| next() as u16).collect() }
+                    })
+                    .collect();
+                Rule { symbols, functions }
+            })
+            .collect();
+        Some(Table { start, symbols, rules })
     }
 
     /// Whether each symbol stands in some tree of the start symbol.

@@ -5,8 +5,12 @@ pub mod cases;
 pub mod grammar;
 pub mod plan;
 pub mod proved;
+mod relations;
 pub mod run;
+mod sequences;
+mod sets;
 pub mod shrink;
+mod tree;
 
 /// A refusal: document 01's number, place and second place.
 #[derive(Debug, Clone, Copy, PartialEq, Eq)]

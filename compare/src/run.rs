@@ -1,95 +1,114 @@
-//! The tree, its checks, and the stack automaton.
+//! The stack automaton.
 
-use crate::grammar::{Function, Grammar};
+use crate::grammar::{arity, Grammar};
 use crate::plan::planned;
+use crate::sequences::Sequence;
+use crate::tree::{check, Node};
 use crate::{Ran, Refusal};
 
-const TERMINAL: u16 = 32768;
+/// An action with all that it needs. Operations have their numbers.
+#[derive(Clone, Copy, Default)]
+struct Step {
+    kind: u8,
+    /// The occurrence that is computed, or the child that is visited.
+    at: u8,
+    constant: i16,
+    arguments: [u8; 4],
+}
 
-fn symbol(g: &Grammar, word: u16) -> usize {
-    if word < TERMINAL {
-        g.rules[word as usize].symbols[0]
-    } else {
-        (word - TERMINAL) as usize
+const VISIT: u8 = 9;
+const LEAVE: u8 = 10;
+
+/// The sequences of those rules that have a node, one after the other, and where each begins.
+struct Program {
+    steps: Vec<Step>,
+    begins: [u16; 64],
+}
+
+impl Program {
+    fn new(g: &Grammar, words: &[u16], sequences: &[Sequence], nodes: &[Node]) -> Self {
+        let rules = nodes.iter().fold(0, |rules, node| if node[0] < 64 { rules | 1u64 << node[0] } else { rules });
+        let mut program = Program { steps: Vec::with_capacity(128), begins: [0; 64] };
+        let mut computes = [Step::default(); 64];
+        for r in crate::relations::bits(rules) {
+            let rule = &g.rules[r];
+            let mut at = rule.functions;
+            for _ in 0..rule.count {
+                let (target, op) = (words[at] as u8, words[at + 1] as u8);
+                let arguments = &words[at + 2..at + 2 + arity(op as usize)];
+                let mut step = Step { kind: op, at: target, constant: arguments[0] as i16, arguments: [0; 4] };
+                step.arguments.iter_mut().zip(arguments).for_each(|(to, &w)| *to = w as u8);
+                computes[target as usize % 64] = step;
+                at += 2 + arguments.len();
+            }
+            program.begins[r] = program.steps.len() as u16;
+            let (length, actions) = sequences[r].split_first().unwrap();
+            program.steps.extend(actions[..*length as usize].iter().map(|&action| match action {
+                0..=63 => computes[action as usize],
+                64..=127 => Step { kind: VISIT, at: (action - 64) as u8 / 8, ..Step::default() },
+                _ => Step { kind: LEAVE, ..Step::default() },
+            }));
+        }
+        program
     }
 }
 
-fn used(g: &Grammar, word: u16) -> usize {
-    if word < TERMINAL {
-        g.rules[word as usize].symbols.len() - 1
-    } else {
-        0
+/// Runs the sequences. The node at work and its place in the program are kept apart from the stack, which has those that wait for a child; a node that is
+/// off the stack and not at work has its place in `places`.
+fn automaton(program: &Program, nodes: &[Node], values: &mut [[i32; 8]], budget: u32) -> Ran {
+    let steps = &program.steps[..];
+    let mut places = [0u16; 1024];
+    for (place, node) in places.iter_mut().zip(nodes) {
+        *place = program.begins[node[0] as usize % 64];
     }
-}
-
-fn check(g: &Grammar, tree: &[u16], values: usize) -> Result<(), Refusal> {
-    let nodes = tree.len() / 8;
-    if tree.len() % 8 != 0 || nodes == 0 || nodes > 1024 {
-        return Err(Refusal::at(12, 0));
-    }
-    for (n, node) in tree.chunks_exact(8).enumerate() {
-        let known = if node[0] < TERMINAL {
-            (node[0] as usize) < g.rules.len()
-        } else {
-            g.symbols.get((node[0] - TERMINAL) as usize).is_some_and(|s| s.terminal)
+    let mut stack = [(0u16, 0u16); 1024];
+    let mut depth = 0;
+    let mut node = 0;
+    let mut place = places[0] as usize;
+    let mut left = budget;
+    loop {
+        // The node itself stands where its rule stood: position 0 is the left side.
+        let mut family = nodes[node];
+        family[0] = node as u16;
+        let moved = loop {
+            if left == 0 {
+                return Ran::Stopped(budget);
+            }
+            left -= 1;
+            let step = &steps[place];
+            place += 1;
+            let value = |o: u8| values[family[o as usize / 8 % 8] as usize][o as usize % 8];
+            let argument = |j: usize| value(step.arguments[j]);
+            let result = match step.kind {
+                0 => step.constant as i32,
+                1 => argument(0),
+                2 => argument(0).saturating_add(argument(1)),
+                3 => argument(0).saturating_sub(argument(1)),
+                4 => argument(0).max(argument(1)),
+                5 => argument(0).min(argument(1)),
+                6 => (argument(0) < argument(1)) as i32,
+                7 => if argument(0) != 0 { argument(1) } else { argument(2) },
+                8 => {
+                    let (p, s, q, t) = (argument(0), argument(1), argument(2), argument(3));
+                    (p > q || p == q && s < t) as i32
+                }
+                VISIT => break Some(family[step.at as usize % 8] as usize),
+                _ => break None,
+            };
+            values[family[step.at as usize / 8 % 8] as usize][step.at as usize % 8] = result;
         };
-        if !known {
-            return Err(Refusal::at(13, n));
-        }
-        let used = used(g, node[0]);
-        for (i, &child) in node.iter().enumerate().skip(1) {
-            let child = child as usize;
-            let fits = if i <= used { child > n && child < nodes } else { child == 0 };
-            if !fits {
-                return Err(Refusal::at(14, n));
+        if let Some(child) = moved {
+            stack[depth] = (node as u16, place as u16);
+            depth += 1;
+            node = child;
+            place = places[child] as usize;
+        } else {
+            places[node] = place as u16;
+            if depth == 0 {
+                return Ran::Done(budget - left);
             }
-        }
-    }
-    if symbol(g, tree[0]) != g.start {
-        return Err(Refusal::at(15, 0));
-    }
-    for (n, node) in tree.chunks_exact(8).enumerate() {
-        for i in 1..=used(g, node[0]) {
-            if symbol(g, tree[8 * node[i] as usize]) != g.rules[node[0] as usize].symbols[i] {
-                return Err(Refusal::at(16, n));
-            }
-        }
-    }
-    let mut named = vec![0u32; nodes];
-    for node in tree.chunks_exact(8) {
-        for i in 1..=used(g, node[0]) {
-            named[node[i] as usize] += 1;
-        }
-    }
-    if let Some(n) = (1..nodes).find(|&n| named[n] != 1) {
-        return Err(Refusal::at(17, n));
-    }
-    if values < 8 * nodes {
-        return Err(Refusal::at(18, 0));
-    }
-    Ok(())
-}
-
-fn value(f: &Function, get: impl Fn(u16) -> i32) -> i32 {
-    let arg = |j: usize| get(f.args[j]);
-    match f.op {
-        0 => f.args[0] as i16 as i32,
-        1 => arg(0),
-        2 => arg(0).saturating_add(arg(1)),
-        3 => arg(0).saturating_sub(arg(1)),
-        4 => arg(0).max(arg(1)),
-        5 => arg(0).min(arg(1)),
-        6 => (arg(0) < arg(1)) as i32,
-        7 => {
-            if arg(0) != 0 {
-                arg(1)
-            } else {
-                arg(2)
-            }
-        }
-        _ => {
-            let (p, s, q, t) = (arg(0), arg(1), arg(2), arg(3));
-            (p > q || (p == q && s < t)) as i32
+            depth -= 1;
+            (node, place) = (stack[depth].0 as usize, stack[depth].1 as usize);
         }
     }
 }
@@ -103,46 +122,8 @@ pub fn run(
     values: &mut [i32],
     budget: u32,
 ) -> Result<Ran, Refusal> {
-    let p = planned(words, rows, plan)?;
-    let g = &p.grammar;
-    check(g, tree, values.len())?;
-    // The function of each occurrence, by rule.
-    let functions: Vec<[Option<&Function>; 64]> = g
-        .rules
-        .iter()
-        .map(|rule| {
-            let mut by = [None; 64];
-            for f in &rule.functions {
-                by[f.target as usize] = Some(f);
-            }
-            by
-        })
-        .collect();
-    let mut places = vec![0usize; tree.len() / 8];
-    let mut stack = vec![0usize];
-    let mut count = 0;
-    while let Some(&n) = stack.last() {
-        if count == budget {
-            return Ok(Ran::Stopped(count));
-        }
-        let r = tree[8 * n] as usize;
-        let action = p.sequences[r][places[n]] as usize;
-        places[n] += 1;
-        count += 1;
-        let cell = |o: u16| {
-            let (i, a) = (o as usize / 8, o as usize % 8);
-            let node = if i == 0 { n } else { tree[8 * n + i] as usize };
-            8 * node + a
-        };
-        if action < 64 {
-            let f = functions[r][action].unwrap();
-            let v = value(f, |o| values[cell(o)]);
-            values[cell(action as u16)] = v;
-        } else if action < 128 {
-            stack.push(tree[8 * n + (action - 64) / 8] as usize);
-        } else {
-            stack.pop();
-        }
-    }
-    Ok(Ran::Done(count))
+    let g = planned(words, rows, plan)?;
+    let nodes = check(&g, tree, values.len())?;
+    let program = Program::new(&g, words, plan[256..].as_chunks().0, nodes);
+    Ok(automaton(&program, nodes, values.as_chunks_mut().0, budget))
 }
