@@ -20,8 +20,10 @@ pub struct Rule {
     /// The left side, then the right side; so many of the eight are used.
     pub symbols: [u8; 8],
     pub positions: usize,
-    /// Occurrences that the rule defines, as bits.
+    /// Occurrences that the rule defines; those that have arguments; and the arguments: as bits.
     pub defining: u64,
+    pub heads: u64,
+    pub tails: u64,
     /// The index of the first function's word, and how many functions there are.
     pub functions: usize,
     pub count: usize,
@@ -187,17 +189,19 @@ impl Grammar {
         let count = r.within(0, 64)?;
         let functions = r.at;
         let by_target = &mut self.arguments[number];
-        let mut open = defining;
+        let (mut open, mut heads, mut tails) = (defining, 0, 0);
         for _ in 0..count {
             let (target, arguments, length) = match r.words[r.at..].first_chunk().and_then(|f| whole(f, open, occurrences)) {
                 Some(f) => f,
                 None => word_by_word(r.words, r.at, open, occurrences)?,
             };
             by_target[target] = arguments;
+            heads |= ((arguments != 0) as u64) << target;
+            tails |= arguments;
             open &= !(1 << target);
             r.at += length;
         }
-        self.rules.push(Rule { symbols, positions, defining, functions, count });
+        self.rules.push(Rule { symbols, positions, defining, heads, tails, functions, count });
         Ok(open)
     }
 }

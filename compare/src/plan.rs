@@ -30,8 +30,7 @@ pub fn planned(words: &[u16], rows: &mut [u64], plan: &mut [u16]) -> Result<Gram
         return Err(Refusal { number: 9, place: rule, second: occurrence });
     }
     let orders = orders(&g, &ids);
-    relations.extend(&g, &orders);
-    let cycle = relations.cycle();
+    let cycle = relations.extend(&g, &orders);
     relations.turn(&g);
     if let Some((rule, occurrence)) = cycle {
         return Err(Refusal { number: 10, place: rule, second: occurrence });
@@ -44,9 +43,11 @@ pub fn planned(words: &[u16], rows: &mut [u64], plan: &mut [u16]) -> Result<Gram
             return Err(Refusal::at(11, r));
         }
     }
-    for (of, order) in sets.as_chunks_mut::<8>().0.iter_mut().zip(&orders) {
-        *of = order.sets.to_le_bytes().map(|k| k as u16);
+    let (used, unused) = sets.split_at_mut(8 * g.count);
+    for (sets, order) in used.as_chunks_mut().0.iter_mut().zip(&orders) {
+        *sets = order.sets.to_le_bytes().map(u16::from);
     }
+    unused.fill(0);
     Ok(g)
 }
 

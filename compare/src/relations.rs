@@ -38,16 +38,61 @@ fn add(before: &mut Before, i: usize, arcs: u64) -> u64 {
     heads
 }
 
-/// Closes over paths through the given occurrences, four of them a step.
+/// Adds to a rule what its blocks lack of those wanted for its symbols; gives the occurrences to be closed over.
+fn add_missing(before: &mut Before, rule: &Rule, blocks: &Blocks, wanted: impl Fn(usize) -> u64) -> u64 {
+    rule.places().fold(0, |middles, (i, x)| {
+        let missing = wanted(x) & !blocks[i];
+        if missing == 0 { middles } else { middles | add(before, i, missing) }
+    })
+}
+
+/// Adds to DP, which is not closed yet, what IDS has so far; gives the occurrences to be closed over: those with something before and after them.
+fn add_first(before: &mut Before, rule: &Rule, ids: &[u64; 32]) -> u64 {
+    let (mut heads, mut tails) = (rule.heads, rule.tails);
+    for (i, x) in rule.places() {
+        if ids[x] != 0 {
+            let rows: &mut [u64; 8] = before[8 * i..].first_chunk_mut().unwrap();
+            for (b, row) in rows.iter_mut().enumerate() {
+                let new = (ids[x] >> (8 * b) & 0xff) << (8 * i);
+                *row |= new;
+                heads |= ((new != 0) as u64) << (8 * i + b);
+                tails |= new;
+            }
+        }
+    }
+    heads & tails
+}
+
+/// The lowest occurrence that comes before itself.
+fn lowest(before: &Before) -> Option<usize> {
+    let on = before.iter().enumerate().fold(0, |on, (o, row)| on | row & 1 << o);
+    (on != 0).then(|| on.trailing_zeros() as usize)
+}
+
+/// Closes over paths through the given occurrences, all that stand at one position in a step.
 fn close(before: &mut Before, rule: &Rule, middles: u64) {
     let rows = &mut before[..8 * rule.positions];
-    for k in 0..2 * rule.positions {
-        let four = middles >> (4 * k) & 15;
-        if four == 0 {
-        } else if four & (four - 1) == 0 {
-            through_one(rows, 4 * k + four.trailing_zeros() as usize);
+    for i in 0..rule.positions {
+        let here = middles >> (8 * i) & 0xff;
+        if here == 0 {
+        } else if here & (here - 1) == 0 {
+            through_one(rows, 8 * i + here.trailing_zeros() as usize);
+        } else if here >> 4 == 0 {
+            through_four(rows, 8 * i);
+        } else if here & 15 == 0 {
+            through_four(rows, 8 * i + 4);
         } else {
-            through_four(rows, 4 * k);
+            // Each has the shift by 8i as a constant.
+            match i {
+                0 => through_eight::<0>(rows),
+                1 => through_eight::<1>(rows),
+                2 => through_eight::<2>(rows),
+                3 => through_eight::<3>(rows),
+                4 => through_eight::<4>(rows),
+                5 => through_eight::<5>(rows),
+                6 => through_eight::<6>(rows),
+                _ => through_eight::<7>(rows),
+            }
         }
     }
 }
@@ -59,24 +104,51 @@ fn through_one(rows: &mut [u64], m: usize) {
     }
 }
 
-/// Closes the four rows among themselves; then what a row gets depends on four of its bits only, and there are 16 unions to get.
-fn through_four(rows: &mut [u64], m: usize) {
-    let four: &mut [u64; 4] = rows[m..].first_chunk_mut().unwrap();
+/// The unions of four rows, by which of them.
+fn unions(four: &[u64; 4]) -> [u64; 16] {
+    let mut out = [0; 16];
+    for k in 0..4 {
+        for j in 0..1 << k {
+            out[j + (1 << k)] = out[j] | four[k];
+        }
+    }
+    out
+}
+
+/// Closes four rows among themselves, which stand from row `at` on.
+fn close_four(four: &mut [u64; 4], at: usize) {
     for k in 0..4 {
         let middle = four[k];
         for row in four.iter_mut() {
-            *row |= middle & (*row >> (m + k) & 1).wrapping_neg();
+            *row = if *row >> (at + k) & 1 == 1 { *row | middle } else { *row };
         }
     }
-    let mut unions = [0; 16];
-    for k in 0..4 {
-        for j in 0..1 << k {
-            unions[j + (1 << k)] = unions[j] | four[k];
-        }
-    }
-    for row in rows {
-        *row |= unions[(*row >> m & 15) as usize];
-    }
+}
+
+/// What a row gets from four rows that stand from `at` on.
+fn get(row: u64, at: usize, unions: &[u64; 16]) -> u64 {
+    unions[(row >> at & 15) as usize]
+}
+
+/// Closes four rows among themselves. Then what a row gets depends on four of its bits only: it is one of 16 unions.
+fn through_four(rows: &mut [u64], at: usize) {
+    let mut four = *rows[at..].first_chunk().unwrap();
+    close_four(&mut four, at);
+    let unions = unions(&four);
+    rows.iter_mut().for_each(|row| *row |= get(*row, at, &unions));
+}
+
+/// The same with the eight rows of a position: two unions for each row.
+fn through_eight<const I: usize>(rows: &mut [u64]) {
+    let (mut low, mut high) = (*rows[8 * I..].first_chunk().unwrap(), *rows[8 * I + 4..].first_chunk().unwrap());
+    close_four(&mut low, 8 * I);
+    let by_low = unions(&low);
+    high.iter_mut().for_each(|row| *row |= get(*row, 8 * I, &by_low));
+    close_four(&mut high, 8 * I + 4);
+    let by_high = unions(&high);
+    low.iter_mut().for_each(|row| *row |= get(*row, 8 * I + 4, &by_high));
+    let by_low = unions(&low);
+    rows.iter_mut().for_each(|row| *row |= get(*row, 8 * I, &by_low) | get(*row, 8 * I + 4, &by_high));
 }
 
 /// The blocks of a rule's positions, as they stand in its relation.
@@ -101,16 +173,16 @@ impl<'a> Relations<'a> {
             let r = stale.trailing_zeros() as usize;
             stale &= stale - 1;
             let rule = &g.rules[r];
-            let mut middles = relations.add_missing(rule, r, |x| ids[x]);
-            if open >> r & 1 == 1 {
-                open &= !(1 << r);
-                middles = between(&relations.before[r]);
-            } else if middles == 0 {
+            let before = &mut relations.before[r];
+            let first = open >> r & 1 == 1;
+            open &= !(1 << r);
+            let middles = if first { add_first(before, rule, &ids) } else { add_missing(before, rule, &relations.blocks[r], |x| ids[x]) };
+            if middles == 0 && !first {
                 continue;
             }
-            close(&mut relations.before[r], rule, middles);
+            close(before, rule, middles);
             for (i, x) in rule.places() {
-                let arcs = block(&relations.before[r], i);
+                let arcs = block(before, i);
                 relations.blocks[r][i] = arcs;
                 if arcs & !ids[x] != 0 {
                     ids[x] |= arcs;
@@ -121,34 +193,22 @@ impl<'a> Relations<'a> {
         (relations, ids)
     }
 
-    /// Adds to rule r what its blocks lack of those wanted for its symbols; gives the occurrences to be closed over.
-    fn add_missing(&mut self, rule: &Rule, r: usize, wanted: impl Fn(usize) -> u64) -> u64 {
-        let mut middles = 0;
-        for (i, x) in rule.places() {
-            let missing = wanted(x) & !self.blocks[r][i];
-            if missing != 0 {
-                middles |= add(&mut self.before[r], i, missing);
-            }
-        }
-        middles
-    }
-
-    /// Makes the paths of IDP those of EDP.
-    pub fn extend(&mut self, g: &Grammar, orders: &[Order; 32]) {
+    /// Makes the paths of IDP those of EDP, from IDP without a cycle; gives the lowest rule and occurrence on a cycle.
+    pub fn extend(&mut self, g: &Grammar, orders: &[Order; 32]) -> Option<(usize, usize)> {
+        let mut cycle = None;
         for (r, rule) in g.rules.iter().enumerate() {
-            let middles = self.add_missing(rule, r, |x| orders[x].earlier);
+            let middles = add_missing(&mut self.before[r], rule, &self.blocks[r], |x| orders[x].earlier);
             if middles != 0 {
                 close(&mut self.before[r], rule, middles);
+                cycle = cycle.or_else(|| lowest(&self.before[r]).map(|o| (r, o)));
             }
         }
+        cycle
     }
 
     /// The lowest rule and occurrence on a cycle.
     pub fn cycle(&self) -> Option<(usize, usize)> {
-        self.before.iter().enumerate().find_map(|(r, rows)| {
-            let on = rows.iter().enumerate().fold(0, |on, (o, row)| on | row & 1 << o);
-            (on != 0).then(|| (r, on.trailing_zeros() as usize))
-        })
+        self.before.iter().enumerate().find_map(|(r, rows)| lowest(rows).map(|o| (r, o)))
     }
 
     /// Turns the relations round: bit b of row o then says that a path leads from o to b.
@@ -166,16 +226,6 @@ impl<'a> Relations<'a> {
 /// Whether IDS has an arc from an attribute to itself: then and only then some IDP has a cycle.
 pub fn cyclic(ids: &[u64; 32]) -> bool {
     ids.iter().fold(0, |on, arcs| on | arcs & TO_ITSELF) != 0
-}
-
-/// The occurrences that something leads to and that lead to something.
-fn between(before: &Before) -> u64 {
-    let (mut heads, mut tails) = (0, 0);
-    for (o, &row) in before.iter().enumerate() {
-        heads |= ((row != 0) as u64) << o;
-        tails |= row;
-    }
-    heads & tails
 }
 
 /// Exchanges rows and columns of the first N: halves first, then the halves of those.

@@ -28,25 +28,31 @@ impl Sequencer {
         Sequencer { needs: [0; 64], waiting: [0; 64], ready: 0, available: 0 }
     }
 
-    /// Each of these computes is ready, or waits.
-    fn look(&mut self, computes: u64) {
-        for o in bits(computes) {
-            let lacks = self.needs[o] & !self.available;
-            if lacks == 0 {
-                self.ready |= 1 << o;
-            } else {
-                // The left side comes by a leave, after all else, and children come in rising order: the one that comes last is likely this.
-                let last = (71 - lacks.rotate_right(8).leading_zeros() as usize) % 64;
-                self.waiting[last] |= 1 << o;
-            }
+    /// A compute is ready, or waits.
+    fn look(&mut self, o: usize) {
+        let lacks = self.needs[o] & !self.available;
+        if lacks == 0 {
+            self.ready |= 1 << o;
+        } else {
+            // The left side comes by a leave, after all else, and children come in rising order: the one that comes last is likely this.
+            let last = (71 - lacks.rotate_right(8).leading_zeros() as usize) % 64;
+            self.waiting[last] |= 1 << o;
         }
     }
 
     /// These occurrences become available.
     fn make(&mut self, made: u64) {
         self.available |= made;
-        let woken = bits(made).fold(0, |woken, o| woken | std::mem::take(&mut self.waiting[o]));
-        self.look(woken);
+        for o in bits(made) {
+            self.wake(o);
+        }
+    }
+
+    /// Those who wait for an occurrence look again.
+    fn wake(&mut self, o: usize) {
+        for woken in bits(std::mem::take(&mut self.waiting[o])) {
+            self.look(woken);
+        }
     }
 
     /// Writes a rule's sequence; false where it gets stuck.
@@ -61,20 +67,21 @@ impl Sequencer {
             wanted |= (child.inherited & 0xff) << (8 * i);
             self.available |= child.given << (8 * i);
         }
+        self.ready = 0;
         for o in bits(rule.defining) {
             let (i, a) = (o / 8, o % 8);
             self.needs[o] = arguments[o] | (orders[rule.symbols[i] as usize].before >> (8 * a) & 0xff) << (8 * i);
+            self.look(o);
         }
-        self.ready = 0;
-        self.look(rule.defining);
         let (mut length, mut leave) = (0, 0);
         loop {
             while self.ready != 0 {
-                let o = self.ready.trailing_zeros();
+                let o = self.ready.trailing_zeros() as usize;
                 self.ready &= self.ready - 1;
+                self.available |= 1 << o;
                 length += 1;
                 out[length] = o as u16;
-                self.make(1 << o);
+                self.wake(o);
             }
             // A child's next visit is its lowest that is left.
             let next = visits & !(visits << 1) & !occupied(wanted & !self.available);

@@ -33,8 +33,8 @@ fn symbols<'a>(g: &'a Grammar, node: &Node) -> Option<(usize, &'a [u8])> {
     (x < g.count && g.symbols[x].terminal).then_some((x, &[]))
 }
 
-/// The nodes of a tree that is a derivation tree of the grammar.
-pub fn check<'a>(g: &Grammar, tree: &'a [u16], values: usize) -> Result<&'a [Node], Refusal> {
+/// The nodes of a tree that is a derivation tree of the grammar, and the rules that they have, as bits.
+pub fn check<'a>(g: &Grammar, tree: &'a [u16], values: usize) -> Result<(&'a [Node], u64), Refusal> {
     let (nodes, rest) = tree.as_chunks();
     let count = nodes.len();
     if !rest.is_empty() || count == 0 || count > 1024 {
@@ -44,11 +44,12 @@ pub fn check<'a>(g: &Grammar, tree: &'a [u16], values: usize) -> Result<&'a [Nod
     const NONE: u8 = u8::MAX;
     let mut named = [NONE; 1024];
     named[0] = g.start as u8;
-    let (mut twice, mut differs, mut orphan) = (false, false, None);
+    let (mut twice, mut differs, mut orphan, mut rules) = (false, false, None, 0);
     for (n, node) in nodes.iter().enumerate() {
         let Some((symbol, right)) = symbols(g, node) else {
             return Err(Refusal::at(13, n));
         };
+        rules |= ((node[0] < 64) as u64) << (node[0] % 64);
         for (&child, &x) in node[1..].iter().zip(right) {
             let child = child as usize;
             if child <= n || child >= count {
@@ -77,7 +78,7 @@ pub fn check<'a>(g: &Grammar, tree: &'a [u16], values: usize) -> Result<&'a [Nod
     if values < 8 * count {
         return Err(Refusal::at(18, 0));
     }
-    Ok(nodes)
+    Ok((nodes, rules))
 }
 
 /// Of 15, 16 and 17 the one that applies, test by test: some symbol is not the one wanted, or some node is named twice.

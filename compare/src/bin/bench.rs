@@ -6,15 +6,17 @@ use independent::{plan, proved, run, Ran, Refusal};
 use std::hint::black_box;
 use std::process::{exit, Command};
 
-/// How long is measured: rounds, and nanoseconds that a side has in each. Short rounds, so that some of them are not disturbed.
+/// How long is measured: passes over all jobs, rounds of a job in each, and nanoseconds that a side has in a round. The rounds are short and a job's
+/// passes lie apart, so that some of them are not disturbed by other work on the machine.
 #[derive(Clone, Copy)]
 struct Effort {
+    passes: usize,
     rounds: usize,
     nanoseconds: f64,
 }
 
-const FULL: Effort = Effort { rounds: 120, nanoseconds: 2e6 };
-const QUICK: Effort = Effort { rounds: 20, nanoseconds: 0.5e6 };
+const FULL: Effort = Effort { passes: 12, rounds: 20, nanoseconds: 1e6 };
+const QUICK: Effort = Effort { passes: 4, rounds: 15, nanoseconds: 1e6 };
 
 #[derive(Clone, Copy, PartialEq)]
 enum Side {
@@ -116,93 +118,124 @@ fn time(times: usize, mut call: impl FnMut() -> Result<u32, Refusal>) -> f64 {
     (now() - start) / times as f64
 }
 
-/// What one side took, in nanoseconds a call.
-#[derive(Clone, Copy)]
-struct Took {
-    least: f64,
-    median: f64,
-}
-
-impl Took {
-    fn of(mut rounds: Vec<f64>) -> Self {
-        rounds.sort_by(f64::total_cmp);
-        Took { least: rounds[0], median: rounds[rounds.len() / 2] }
-    }
-
-    fn less(self, other: Took) -> Took {
-        Took { least: self.least - other.least, median: self.median - other.median }
-    }
-}
-
-/// Both sides on a job, and its actions where it is a run.
-struct Measured {
-    proved: Took,
-    plain: Took,
-    actions: Option<u32>,
-}
-
-impl Measured {
-    fn ratio(&self) -> f64 {
-        self.proved.least / self.plain.least
-    }
-}
-
-/// Both sides on one call of a job, in turn: who goes first changes from round to round.
-fn in_turn(job: &Job, call: Call, effort: Effort) -> (Took, Took) {
-    let mut lent = Lent::new(job);
-    let mut side = |times: usize, side: Side| time(times, || lent.call(job, call, side));
-    let once = side(3, Side::Proved).max(side(3, Side::Plain));
-    let times = (effort.nanoseconds / once).clamp(1.0, 1e6) as usize;
-    let (mut proved, mut plain) = (Vec::new(), Vec::new());
-    for k in 0..2 * effort.rounds {
-        if k % 4 == 0 || k % 4 == 3 {
-            proved.push(side(times, Side::Proved));
-        } else {
-            plain.push(side(times, Side::Plain));
-        }
-    }
-    (Took::of(proved), Took::of(plain))
-}
-
-/// Both sides answer alike and leave the same, and as the job expects: its actions, or none where it is refused.
-fn alike(job: &Job, call: Call) -> Option<u32> {
+/// Both sides answer alike and leave the same: the answer.
+fn alike(job: &Job, call: Call) -> Result<u32, Refusal> {
     let (mut ours, mut theirs) = (Lent::new(job), Lent::new(job));
     let answer = ours.call(job, call, Side::Proved);
     assert_eq!(answer, theirs.call(job, call, Side::Plain), "{}: the answers differ", job.name);
     assert!(ours == theirs, "{}: the buffers differ", job.name);
-    answer.ok()
+    answer
 }
 
-fn measure(job: &Job, effort: Effort) -> Measured {
-    let actions = alike(job, job.call);
-    let refusal = Lent::new(job).call(job, job.call, Side::Proved).map_or_else(|r| r.number, |_| 0);
-    assert_eq!(refusal, job.refusal, "{}: the refusal is another", job.name);
-    let (mut proved, mut plain) = in_turn(job, job.call, effort);
-    if let Some(less) = job.less {
-        alike(job, less);
-        let off = in_turn(job, less, effort);
-        (proved, plain) = (proved.less(off.0), plain.less(off.1));
-    }
-    Measured { proved, plain, actions: actions.filter(|_| matches!(job.call, Call::Run(_))) }
+/// A job that is measured: nanoseconds a call by round, of both sides, and of both on the call that is taken off.
+struct Meter {
+    job: Job,
+    lent: Lent,
+    actions: Option<u32>,
+    parts: Vec<(Call, Side)>,
+    times: Vec<usize>,
+    took: Vec<Vec<f64>>,
 }
 
-/// Prints a table of jobs and gives what was measured.
-fn print(jobs: &[Job], effort: Effort) -> Vec<Measured> {
-    println!("| Job | proved, µs | plain, µs | ratio | proved, median | plain, median | proved, ns an action | plain, ns an action |");
-    println!("|---|---|---|---|---|---|---|---|");
-    let micros = |nanoseconds: f64| format!("{:.2}", nanoseconds / 1000.0);
-    let mut all = Vec::new();
-    for job in jobs {
-        let m = measure(job, effort);
-        let each = |took: Took| m.actions.map_or(String::new(), |n| format!("{:.1}", took.least / n as f64));
-        println!(
-            "| {} | {} | {} | {:.2} | {} | {} | {} | {} |",
-            job.name, micros(m.proved.least), micros(m.plain.least), m.ratio(), micros(m.proved.median), micros(m.plain.median), each(m.proved), each(m.plain)
-        );
-        all.push(m);
+impl Meter {
+    fn new(job: Job, effort: Effort) -> Self {
+        let answer = alike(&job, job.call);
+        assert_eq!(answer.map_or_else(|r| r.number, |_| 0), job.refusal, "{}: another answer than expected", job.name);
+        let mut parts = vec![(job.call, Side::Proved), (job.call, Side::Plain)];
+        if let Some(less) = job.less {
+            let _ = alike(&job, less);
+            parts.extend([(less, Side::Proved), (less, Side::Plain)]);
+        }
+        let mut lent = Lent::new(&job);
+        let times = parts.iter().map(|&(call, side)| (effort.nanoseconds / time(3, || lent.call(&job, call, side))).clamp(1.0, 1e6) as usize).collect();
+        let took = vec![Vec::new(); parts.len()];
+        let actions = answer.ok().filter(|_| matches!(job.call, Call::Run(_)));
+        Meter { job, lent, actions, parts, times, took }
     }
-    println!();
-    all
+
+    /// Measures in turn: who goes first changes from round to round.
+    fn rounds(&mut self, count: usize) {
+        for k in 0..count {
+            for j in 0..self.parts.len() {
+                let j = if k % 2 == 0 { j } else { self.parts.len() - 1 - j };
+                let (call, side) = self.parts[j];
+                self.took[j].push(time(self.times[j], || self.lent.call(&self.job, call, side)));
+            }
+        }
+    }
+
+    fn least(&self, side: Side) -> f64 {
+        let least = |j: usize| self.took[j].iter().copied().fold(f64::MAX, f64::min);
+        let j = side as usize;
+        if self.job.less.is_some() { least(j) - least(j + 2) } else { least(j) }
+    }
+
+    /// A side's time in round k.
+    fn in_round(&self, k: usize, side: Side) -> f64 {
+        let j = side as usize;
+        self.took[j][k] - if self.job.less.is_some() { self.took[j + 2][k] } else { 0.0 }
+    }
+
+    /// The median over the rounds of something.
+    fn median(&self, of: impl Fn(usize) -> f64) -> f64 {
+        let mut all: Vec<f64> = (0..self.took[0].len()).map(of).collect();
+        all.sort_by(f64::total_cmp);
+        all[all.len() / 2]
+    }
+
+    fn ratio(&self) -> f64 {
+        self.least(Side::Proved) / self.least(Side::Plain)
+    }
+
+    fn line(&self) -> String {
+        let micros = |nanoseconds: f64| format!("{:.2}", nanoseconds / 1000.0);
+        let each = |side: Side| self.actions.map_or(String::new(), |n| format!("{:.1}", self.least(side) / n as f64));
+        let (proved, plain) = (|k| self.in_round(k, Side::Proved), |k| self.in_round(k, Side::Plain));
+        [
+            self.job.name.clone(),
+            micros(self.least(Side::Proved)),
+            micros(self.least(Side::Plain)),
+            format!("{:.2}", self.ratio()),
+            micros(self.median(proved)),
+            micros(self.median(plain)),
+            format!("{:.2}", self.median(|k| proved(k) / plain(k))),
+            each(Side::Proved),
+            each(Side::Plain),
+        ]
+        .map(|cell| format!("| {cell} "))
+        .concat()
+            + "|"
+    }
+}
+
+/// A table of jobs. Where they rise in size, the sizes and what they are sizes of.
+struct Section {
+    title: &'static str,
+    meters: Vec<Meter>,
+    against: Option<(&'static str, Vec<usize>)>,
+}
+
+impl Section {
+    fn new(title: &'static str, jobs: Vec<Job>, effort: Effort) -> Self {
+        Section { title, meters: jobs.into_iter().map(|job| Meter::new(job, effort)).collect(), against: None }
+    }
+
+    fn rising(title: &'static str, what: &'static str, sizes: &[usize], job: impl Fn(usize) -> Job, effort: Effort) -> Self {
+        let section = Section::new(title, sizes.iter().map(|&n| job(n)).collect(), effort);
+        Section { against: Some((what, sizes.to_vec())), ..section }
+    }
+
+    fn print(&self) {
+        println!("{}:\n", self.title);
+        println!("| Job | proved, µs | plain, µs | ratio | proved, median | plain, median | ratio, median | proved, ns an action | plain, ns an action |");
+        println!("|---|---|---|---|---|---|---|---|---|");
+        self.meters.iter().for_each(|m| println!("{}", m.line()));
+        println!();
+        if let Some((what, sizes)) = &self.against {
+            let of = |side: Side| exponent(&sizes.iter().zip(&self.meters).map(|(&n, m)| (n as f64, m.least(side))).collect::<Vec<_>>());
+            println!("Cost grows like {what} to the {:.2} (proved), to the {:.2} (plain).\n", of(Side::Proved), of(Side::Plain));
+        }
+    }
 }
 
 /// The exponent e for which time grows like size to the e: the slope of the line through the logarithms that fits best.
@@ -211,15 +244,6 @@ fn exponent(points: &[(f64, f64)]) -> f64 {
     let n = logs.len() as f64;
     let (x, y) = (logs.iter().map(|p| p.0).sum::<f64>() / n, logs.iter().map(|p| p.1).sum::<f64>() / n);
     logs.iter().map(|p| (p.0 - x) * (p.1 - y)).sum::<f64>() / logs.iter().map(|p| (p.0 - x).powi(2)).sum::<f64>()
-}
-
-/// Prints jobs of rising size, and how the cost of each side grows with it.
-fn print_against(what: &str, sizes: &[usize], job: impl Fn(usize) -> Job, effort: Effort) -> Vec<Measured> {
-    let jobs: Vec<Job> = sizes.iter().map(|&n| job(n)).collect();
-    let all = print(&jobs, effort);
-    let of = |took: fn(&Measured) -> f64| exponent(&sizes.iter().zip(&all).map(|(&n, m)| (n as f64, took(m))).collect::<Vec<_>>());
-    println!("Cost grows like {what} to the {:.2} (proved), to the {:.2} (plain).\n", of(|m| m.proved.least), of(|m| m.plain.least));
-    all
 }
 
 /// The bytes below the caller's stack pointer that a call touches. The stack there is painted first, on a thread of its own.
@@ -255,8 +279,59 @@ fn line(command: &str, words: &[&str]) -> String {
     String::from_utf8_lossy(&out).trim().to_string()
 }
 
+fn sections(effort: Effort) -> Vec<Section> {
+    let two = || (five_visits(4, 2, 8).words(), five_visits_tree(1023, 4, 2));
+    let path = || (five_visits(4, 1, 8).words(), five_visits_tree(1024, 4, 1));
+    // One more node, which is no node's child.
+    let orphan = [lines(511), vec![32770, 0, 0, 0, 0, 0, 0, 0]].concat();
+    let planning = vec![
+        Job::plan("plan G", G.to_vec()),
+        Job::plan("plan the longest ordered table: 64 rules of length 7, 64 functions each", longest().words()),
+        Job::plan("plan 64 rules of length 7, 8 attributes in 5 visits", five_visits(64, 7, 8).words()),
+        Job::plan("plan dense: 64 rules of length 7, 8 attributes, left to right", dense(false, 1).words()),
+        Job::plan("plan dense: 64 rules of length 7, 8 attributes in 5 visits", dense(true, 1).words()),
+        Job::plan("plan many rounds: 93 over 33 rules of length 1", many_rounds(1).words()),
+        Job::plan("plan many rounds: 93 over 33 rules of length 7", many_rounds(7).words()),
+        Job::plan("refused 9 at full size: 25,315 words", longest_cyclic().words()).refused(9),
+        Job::plan("refused 10 at full size: 64 rules of length 7, 8 attributes", crossed_at_full_size().words()).refused(10),
+        Job { rows: 0, ..Job::plan("reading alone: 25,315 words (8 for the rows)", longest_cyclic().words()).refused(8) },
+    ];
+    let runs = [
+        Job::run("run G, 1,023 nodes", G.to_vec(), lines(511)),
+        Job::run("run 5 visits, 1,023 nodes", two().0, two().1),
+        Job::run("run 5 visits, 1,024 nodes in one path", path().0, path().1),
+    ];
+    let alone = runs.clone().map(|job| Job { name: format!("{}, alone", job.name), ..job }.less(Call::Run(0)));
+    let check = Job::run("tree check alone: 17 at the last of 1,024 nodes", G.to_vec(), orphan).refused(17).less(Call::Plan);
+    let by_rules = |n: usize| Job::plan(format!("{n} rules"), five_visits(n, 7, 8).words());
+    let by_occurrences = |n: usize| Job::plan(format!("{n} occurrences"), five_visits(64, n / 8 - 1, 8).words());
+    let by_nodes = |n: usize| Job::run(format!("{n} nodes"), two().0, five_visits_tree(n, 4, 2));
+    vec![
+        Section::new("Planning", planning, effort),
+        Section::new("Runs with planning, runs alone (a budget of 0 taken off), and the tree check (planning taken off)", [&runs[..], &alone, &[check]].concat(), effort),
+        Section::rising("Planning against the number of rules (length 7, 8 attributes, 5 visits)", "the rules", &[4, 8, 16, 32, 64], by_rules, effort),
+        Section::rising("Planning 64 rules against the occurrences of a rule (8 attributes a symbol)", "the occurrences", &[16, 24, 32, 40, 48, 56, 64], by_occurrences, effort),
+        Section::new("Running 5 visits against the number of nodes, with planning", [2, 16, 64, 256, 512, 1024].map(by_nodes).into(), effort),
+    ]
+}
+
+fn print_stack() {
+    let used = |job: Job| {
+        let mut lent = Lent::new(&job);
+        stack_bytes(move || {
+            let _ = black_box(lent.call(&job, job.call, Side::Proved));
+        })
+    };
+    println!("Stack of the proved code, as touched below the caller (no heap is used):\n\n| Call | bytes |\n|---|---|");
+    println!("| plan, the longest ordered table | {} |", used(Job::plan("", longest().words())));
+    println!("| plan G | {} |", used(Job::plan("", G.to_vec())));
+    println!("| plan, 64 rules with 5 visits | {} |", used(Job::plan("", five_visits(64, 7, 8).words())));
+    println!("| run, 1,024 nodes in one path | {} |", used(Job::run("", five_visits(4, 1, 8).words(), five_visits_tree(1024, 4, 1))));
+}
+
 fn main() {
-    let effort = match std::env::args().skip(1).collect::<Vec<_>>().iter().map(String::as_str).collect::<Vec<_>>()[..] {
+    let arguments: Vec<String> = std::env::args().skip(1).collect();
+    let effort = match arguments.iter().map(String::as_str).collect::<Vec<_>>()[..] {
         [] => FULL,
         ["--quick"] => QUICK,
         _ => {
@@ -264,57 +339,16 @@ fn main() {
             exit(2);
         }
     };
+    let mut sections = sections(effort);
+    for _ in 0..effort.passes {
+        sections.iter_mut().flat_map(|s| &mut s.meters).for_each(|m| m.rounds(effort.rounds));
+    }
     let cores = std::thread::available_parallelism().map_or(1, |n| n.get());
-    println!("{}, {cores} cores. Least of {} rounds, both sides in turn; medians beside it. Buffers are not cleared between calls; a run includes planning where nothing is taken off.\n", line("date", &["+%Y-%m-%d"]), effort.rounds);
-    let full_size = five_visits(64, 7, 8).words();
-    let two = || (five_visits(4, 2, 8).words(), five_visits_tree(1023, 4, 2));
-    let path = || (five_visits(4, 1, 8).words(), five_visits_tree(1024, 4, 1));
-    // One more node, which is no node's child.
-    let orphan = || [lines(511), vec![32770, 0, 0, 0, 0, 0, 0, 0]].concat();
-    let mut all = print(
-        &[
-            Job::plan("plan G", G.to_vec()),
-            Job::plan("plan the longest ordered table: 64 rules of length 7, 64 functions each", longest().words()),
-            Job::plan("plan 64 rules of length 7, 8 attributes in 5 visits", full_size.clone()),
-            Job::plan("plan dense: 64 rules of length 7, 8 attributes, left to right", dense(false, 1).words()),
-            Job::plan("plan dense: 64 rules of length 7, 8 attributes in 5 visits", dense(true, 1).words()),
-            Job::plan("plan many rounds: 93 over 33 rules of length 1", many_rounds(1).words()),
-            Job::plan("plan many rounds: 93 over 33 rules of length 7", many_rounds(7).words()),
-            Job::plan("refused 9 at full size: 25,315 words", longest_cyclic().words()).refused(9),
-            Job::plan("refused 10 at full size: 64 rules of length 7, 8 attributes", crossed_at_full_size().words()).refused(10),
-            Job { rows: 0, ..Job::plan("reading alone: 25,315 words (8 for the rows)", longest_cyclic().words()).refused(8) },
-            Job::run("tree check alone: 17 at the last of 1,024 nodes (planning taken off)", G.to_vec(), orphan()).refused(17).less(Call::Plan),
-        ],
-        effort,
-    );
-    println!("Runs, with planning and alone (a budget of 0 taken off):\n");
-    let runs = [
-        Job::run("run G, 1,023 nodes", G.to_vec(), lines(511)),
-        Job::run("run 5 visits, 1,023 nodes", two().0, two().1),
-        Job::run("run 5 visits, 1,024 nodes in one path", path().0, path().1),
-    ];
-    let alone = runs.clone().map(|job| Job { name: format!("{}, alone", job.name), ..job }.less(Call::Run(0)));
-    all.extend(print(&[runs, alone].concat(), effort));
-    println!("Planning against the number of rules (length 7, 8 attributes, 5 visits):\n");
-    all.extend(print_against("the rules", &[4, 8, 16, 32, 64], |n| Job::plan(format!("{n} rules"), five_visits(n, 7, 8).words()), effort));
-    println!("Planning 64 rules against the occurrences of a rule (8 attributes a symbol):\n");
-    let with = |n: usize| Job::plan(format!("{n} occurrences"), five_visits(64, n / 8 - 1, 8).words());
-    all.extend(print_against("the occurrences", &[16, 24, 32, 40, 48, 56, 64], with, effort));
-    println!("Running 5 visits against the number of nodes:\n");
-    let nodes = |n: usize| Job::run(format!("{n} nodes"), two().0, five_visits_tree(n, 4, 2));
-    all.extend(print(&[2, 16, 64, 256, 512, 1024].map(nodes), effort));
-    let slower = all.iter().filter(|m| m.ratio() > 1.0).count();
-    let most = all.iter().map(Measured::ratio).fold(0.0, f64::max);
-    println!("The proved code is slower in {slower} of {} jobs; the highest ratio is {most:.2}.\n", all.len());
-    let used = |job: Job| {
-        stack_bytes(move || {
-            let mut lent = Lent::new(&job);
-            let _ = black_box(lent.call(&job, job.call, Side::Proved));
-        })
-    };
-    println!("Stack of the proved code, as touched below the caller (no heap is used):\n\n| Call | bytes |\n|---|---|");
-    println!("| plan, the longest ordered table | {} |", used(Job::plan("", longest().words())));
-    println!("| plan G | {} |", used(Job::plan("", G.to_vec())));
-    println!("| plan, 64 rules with 5 visits | {} |", used(Job::plan("", full_size)));
-    println!("| run, 1,024 nodes in one path | {} |", used(Job::run("", path().0, path().1)));
+    let (date, rounds) = (line("date", &["+%Y-%m-%d"]), effort.passes * effort.rounds);
+    println!("{date}, {cores} cores. Least of {rounds} rounds, both sides in turn, and medians. Buffers are not cleared between calls.\n");
+    sections.iter().for_each(Section::print);
+    let ratios: Vec<f64> = sections.iter().flat_map(|s| &s.meters).map(Meter::ratio).collect();
+    let slower = ratios.iter().filter(|&&r| r > 1.0).count();
+    println!("The proved code is slower in {slower} of {} jobs; the highest ratio is {:.2}.\n", ratios.len(), ratios.iter().copied().fold(0.0, f64::max));
+    print_stack();
 }
