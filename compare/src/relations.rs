@@ -169,9 +169,13 @@ impl<'a> Relations<'a> {
         let mut ids = [0; 32];
         let all = u64::MAX >> (64 - count);
         let (mut stale, mut open) = (all, all);
+        let mut ahead = all;
         while stale != 0 {
-            let r = stale.trailing_zeros() as usize;
-            stale &= stale - 1;
+            // The next above the last one, and from the lowest again: arcs of many rules come together before a rule is closed once more.
+            let next = if stale & ahead != 0 { stale & ahead } else { stale };
+            let r = next.trailing_zeros() as usize;
+            ahead = (u64::MAX << r) << 1;
+            stale &= !(1 << r);
             let rule = &g.rules[r];
             let before = &mut relations.before[r];
             let first = open >> r & 1 == 1;
@@ -231,10 +235,8 @@ pub fn cyclic(ids: &[u64; 32]) -> bool {
 /// Exchanges rows and columns of the first N: halves first, then the halves of those.
 fn turn<const N: usize>(rows: &mut Before) {
     let mut width = N / 2;
-    let mut low = u64::MAX >> (64 - N / 2) as u32;
-    if N < 64 {
-        low |= low << N;
-    }
+    // The lower half of the columns, then of each half, and so on.
+    let mut low = u64::MAX >> (64 - width);
     while width > 0 {
         for at in (0..N).step_by(2 * width) {
             for k in at..at + width {

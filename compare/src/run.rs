@@ -7,20 +7,41 @@ use crate::sequences::Sequence;
 use crate::tree::{check, Node};
 use crate::{Ran, Refusal};
 
+#[derive(Clone, Copy)]
+enum Kind {
+    Constant,
+    Copy,
+    Sum,
+    Difference,
+    Larger,
+    Smaller,
+    Less,
+    Choose,
+    Served,
+    Visit,
+    Leave,
+}
+
+/// The operations by their numbers.
+const OPERATIONS: [Kind; 9] =
+    [Kind::Constant, Kind::Copy, Kind::Sum, Kind::Difference, Kind::Larger, Kind::Smaller, Kind::Less, Kind::Choose, Kind::Served];
+
 /// An action with all that it needs.
-#[derive(Clone, Copy, Default)]
+#[derive(Clone, Copy)]
 struct Step {
-    /// An operation by its number, or a visit or a leave.
-    kind: u8,
+    kind: Kind,
     /// The occurrence that is computed, or the child that is visited.
     at: u8,
     arguments: [u8; 4],
-    /// The constant of operation 0; after a visit or a leave, the place in the program at which the node goes on.
+    /// A constant; after a visit or a leave, the place in the program at which the node goes on.
     number: u16,
 }
 
-const VISIT: u8 = 9;
-const LEAVE: u8 = 10;
+impl Step {
+    fn to(kind: Kind, at: u8, number: u16) -> Self {
+        Step { kind, at, arguments: [0; 4], number }
+    }
+}
 
 /// The sequences of those rules that have a node, one after the other; where each begins, and how long it is.
 struct Program {
@@ -32,16 +53,16 @@ struct Program {
 impl Program {
     fn new(g: &Grammar, words: &[u16], sequences: &[Sequence], rules: u64) -> Self {
         let mut program = Program { steps: Vec::with_capacity(128), begins: [0; 64], lengths: [0; 64] };
-        let mut computes = [Step::default(); 64];
+        let mut computes = [Step::to(Kind::Leave, 0, 0); 64];
         for r in bits(rules) {
             let rule = &g.rules[r];
             let mut at = rule.functions;
             for _ in 0..rule.count {
-                let (target, op) = (words[at] as u8, words[at + 1] as u8);
-                let arguments = &words[at + 2..at + 2 + arity(op as usize)];
-                let mut step = Step { kind: op, at: target, arguments: [0; 4], number: arguments[0] };
+                let (target, op) = (words[at] as usize, words[at + 1] as usize);
+                let arguments = &words[at + 2..at + 2 + arity(op)];
+                let mut step = Step::to(OPERATIONS[op], target as u8, arguments[0]);
                 step.arguments.iter_mut().zip(arguments).for_each(|(to, &w)| *to = w as u8);
-                computes[target as usize % 64] = step;
+                computes[target] = step;
                 at += 2 + arguments.len();
             }
             let begin = program.steps.len() as u16;
@@ -49,8 +70,8 @@ impl Program {
             (program.begins[r], program.lengths[r]) = (begin, length);
             program.steps.extend(actions[..length as usize].iter().zip(begin + 1..).map(|(&action, next)| match action {
                 0..=63 => computes[action as usize],
-                64..=127 => Step { kind: VISIT, at: (action - 64) as u8 / 8, arguments: [0; 4], number: next },
-                _ => Step { kind: LEAVE, number: next, ..Step::default() },
+                64..=127 => Step::to(Kind::Visit, (action - 64) as u8 / 8, next),
+                _ => Step::to(Kind::Leave, 0, next),
             }));
         }
         program
@@ -62,31 +83,10 @@ fn cell(family: &[u16; 32], o: u8) -> (usize, usize) {
     (family[o as usize / 8] as usize, o as usize % 8)
 }
 
-fn value(step: &Step, argument: impl Fn(usize) -> i32) -> i32 {
-    match step.kind {
-        0 => step.number as i16 as i32,
-        1 => argument(0),
-        2 => argument(0).saturating_add(argument(1)),
-        3 => argument(0).saturating_sub(argument(1)),
-        4 => argument(0).max(argument(1)),
-        5 => argument(0).min(argument(1)),
-        6 => (argument(0) < argument(1)) as i32,
-        7 => {
-            let (x, y, z) = (argument(0), argument(1), argument(2));
-            if x != 0 { y } else { z }
-        }
-        _ => {
-            let (p, s, q, t) = (argument(0), argument(1), argument(2), argument(3));
-            (p > q || p == q && s < t) as i32
-        }
-    }
-}
-
 /// Runs the sequences until the root's last leave; where the budget may not last, no further than that. The node at work is kept apart from the stack,
 /// which has those that wait for a child and their places in the program; a node that is off the stack and not at work has its place in `places`.
-/// False where the budget stopped it.
 #[inline(never)]
-fn automaton<const LIMITED: bool>(steps: &[Step], mut places: [u16; 1024], nodes: &[Node], values: &mut [[i32; 8]], mut budget: u32) -> bool {
+fn automaton<const LIMITED: bool>(steps: &[Step], mut places: [u16; 1024], nodes: &[Node], values: &mut [[i32; 8]], mut budget: u32) {
     let mut stack = [(0u16, 0u16); 1024];
     let mut depth = 0;
     let (mut node, mut place) = (0, places[0]);
@@ -98,36 +98,49 @@ fn automaton<const LIMITED: bool>(steps: &[Step], mut places: [u16; 1024], nodes
         for step in &steps[place as usize..] {
             if LIMITED {
                 if budget == 0 {
-                    return false;
+                    return;
                 }
                 budget -= 1;
             }
-            match step.kind {
-                VISIT => {
+            let argument = |j: usize| {
+                let (n, a) = cell(&family, step.arguments[j]);
+                values[n][a]
+            };
+            let result = match step.kind {
+                Kind::Constant => step.number as i16 as i32,
+                Kind::Copy => argument(0),
+                Kind::Sum => argument(0).saturating_add(argument(1)),
+                Kind::Difference => argument(0).saturating_sub(argument(1)),
+                Kind::Larger => argument(0).max(argument(1)),
+                Kind::Smaller => argument(0).min(argument(1)),
+                Kind::Less => (argument(0) < argument(1)) as i32,
+                Kind::Choose => {
+                    let (x, y, z) = (argument(0), argument(1), argument(2));
+                    if x != 0 { y } else { z }
+                }
+                Kind::Served => {
+                    let (p, s, q, t) = (argument(0), argument(1), argument(2), argument(3));
+                    (p > q || p == q && s < t) as i32
+                }
+                Kind::Visit => {
                     stack[depth] = (node, step.number);
                     depth += 1;
                     node = family[step.at as usize % 8];
                     place = places[node as usize];
                     continue 'moves;
                 }
-                LEAVE => {
+                Kind::Leave => {
                     if depth == 0 {
-                        return true;
+                        return;
                     }
                     places[node as usize] = step.number;
                     depth -= 1;
                     (node, place) = stack[depth];
                     continue 'moves;
                 }
-                _ => {
-                    let result = value(step, |j| {
-                        let (n, a) = cell(&family, step.arguments[j]);
-                        values[n][a]
-                    });
-                    let (n, a) = cell(&family, step.at);
-                    values[n][a] = result;
-                }
-            }
+            };
+            let (n, a) = cell(&family, step.at);
+            values[n][a] = result;
         }
         unreachable!("a sequence ends with a leave");
     }
