@@ -130,6 +130,34 @@ fn word_by_word(words: &[u16], at: usize, open: u64, occurrences: u64) -> Result
     Ok((target, arguments, r.at - at))
 }
 
+/// What the functions of a rule come to.
+struct Functions {
+    /// The index of the word after them.
+    end: usize,
+    /// What should be defined and is not.
+    open: u64,
+    heads: u64,
+    tails: u64,
+}
+
+/// Reads so many functions. Not inlined, so that what it counts stays in registers.
+#[inline(never)]
+fn read_functions(words: &[u16], start: usize, count: usize, defining: u64, occurrences: u64, by_target: &mut Before) -> Result<Functions, Refusal> {
+    let mut read = Functions { end: start, open: defining, heads: 0, tails: 0 };
+    for _ in 0..count {
+        let (target, arguments, length) = match words[read.end..].first_chunk().and_then(|f| whole(f, read.open, occurrences)) {
+            Some(f) => f,
+            None => word_by_word(words, read.end, read.open, occurrences)?,
+        };
+        by_target[target] = arguments;
+        read.heads |= ((arguments != 0) as u64) << target;
+        read.tails |= arguments;
+        read.open &= !(1 << target);
+        read.end += length;
+    }
+    Ok(read)
+}
+
 impl Grammar {
     pub fn read(words: &[u16]) -> Result<Grammar, Refusal> {
         let mut r = Reader { words, at: 0 };
@@ -188,20 +216,9 @@ impl Grammar {
         }
         let count = r.within(0, 64)?;
         let functions = r.at;
-        let by_target = &mut self.arguments[number];
-        let (mut open, mut heads, mut tails) = (defining, 0, 0);
-        for _ in 0..count {
-            let (target, arguments, length) = match r.words[r.at..].first_chunk().and_then(|f| whole(f, open, occurrences)) {
-                Some(f) => f,
-                None => word_by_word(r.words, r.at, open, occurrences)?,
-            };
-            by_target[target] = arguments;
-            heads |= ((arguments != 0) as u64) << target;
-            tails |= arguments;
-            open &= !(1 << target);
-            r.at += length;
-        }
-        self.rules.push(Rule { symbols, positions, defining, heads, tails, functions, count });
-        Ok(open)
+        let read = read_functions(r.words, functions, count, defining, occurrences, &mut self.arguments[number])?;
+        r.at = read.end;
+        self.rules.push(Rule { symbols, positions, defining, heads: read.heads, tails: read.tails, functions, count });
+        Ok(read.open)
     }
 }
