@@ -304,8 +304,8 @@ fn function(target: usize, from: &[usize]) -> Function {
     Function { target, op, args }
 }
 
-/// An ordered table whose induced arcs need some 93 rounds over the rules: in each of three pairs of attributes (synthesized p, inherited 3 + p) the arc
-/// climbs a chain of 31 symbols, a rule a round since the rules stand from the top to the bottom; and what arrives at the top is what the next pair
+/// An ordered table whose induced arcs need 92 passes over the rules in their order: in each of three pairs of attributes (synthesized p, inherited 3 + p) the arc
+/// climbs a chain of 31 symbols, a rule a pass since the rules stand from the top to the bottom; and what arrives at the top is what the next pair
 /// starts from at the bottom. Each rule has its one child so many times.
 pub fn many_rounds(right: usize) -> Table {
     const CHAIN: usize = 31;

@@ -15,8 +15,8 @@ struct Effort {
     nanoseconds: f64,
 }
 
-const FULL: Effort = Effort { passes: 12, rounds: 20, nanoseconds: 1e6 };
-const QUICK: Effort = Effort { passes: 4, rounds: 15, nanoseconds: 1e6 };
+const FULL: Effort = Effort { passes: 20, rounds: 20, nanoseconds: 1e6 };
+const QUICK: Effort = Effort { passes: 8, rounds: 15, nanoseconds: 1e6 };
 
 #[derive(Clone, Copy, PartialEq)]
 enum Side {
@@ -290,8 +290,8 @@ fn sections(effort: Effort) -> Vec<Section> {
         Job::plan("plan 64 rules of length 7, 8 attributes in 5 visits", five_visits(64, 7, 8).words()),
         Job::plan("plan dense: 64 rules of length 7, 8 attributes, left to right", dense(false, 1).words()),
         Job::plan("plan dense: 64 rules of length 7, 8 attributes in 5 visits", dense(true, 1).words()),
-        Job::plan("plan many rounds: 93 over 33 rules of length 1", many_rounds(1).words()),
-        Job::plan("plan many rounds: 93 over 33 rules of length 7", many_rounds(7).words()),
+        Job::plan("plan many rounds: 92 passes over 33 rules of length 1", many_rounds(1).words()),
+        Job::plan("plan many rounds: 92 passes over 33 rules of length 7", many_rounds(7).words()),
         Job::plan("refused 9 at full size: 25,315 words", longest_cyclic().words()).refused(9),
         Job::plan("refused 10 at full size: 64 rules of length 7, 8 attributes", crossed_at_full_size().words()).refused(10),
         Job { rows: 0, ..Job::plan("reading alone: 25,315 words (8 for the rows)", longest_cyclic().words()).refused(8) },
