@@ -69,31 +69,32 @@ fn lowest(before: &Before) -> Option<usize> {
     (on != 0).then(|| on.trailing_zeros() as usize)
 }
 
-/// Closes over paths through the given occurrences, all that stand at one position in a step.
+/// Closes over paths through the given occurrences: all that stand at one position in a step, which costs less where they are fewer.
 fn close(before: &mut Before, rule: &Rule, middles: u64) {
     let rows = &mut before[..8 * rule.positions];
     for i in 0..rule.positions {
         let here = middles >> (8 * i) & 0xff;
-        if here == 0 {
-        } else if here & (here - 1) == 0 {
-            through_one(rows, 8 * i + here.trailing_zeros() as usize);
-        } else if here >> 4 == 0 {
-            through_four(rows, 8 * i);
-        } else if here & 15 == 0 {
-            through_four(rows, 8 * i + 4);
-        } else {
-            // Each has the shift by 8i as a constant.
-            match i {
-                0 => through_eight::<0>(rows),
-                1 => through_eight::<1>(rows),
-                2 => through_eight::<2>(rows),
-                3 => through_eight::<3>(rows),
-                4 => through_eight::<4>(rows),
-                5 => through_eight::<5>(rows),
-                6 => through_eight::<6>(rows),
-                _ => through_eight::<7>(rows),
-            }
+        match (here & 15, here >> 4) {
+            (0, 0) => {}
+            _ if here & (here - 1) == 0 => through_one(rows, 8 * i + here.trailing_zeros() as usize),
+            (_, 0) => through_four(rows, 8 * i),
+            (0, _) => through_four(rows, 8 * i + 4),
+            _ => through_position(rows, i),
         }
+    }
+}
+
+/// Each has the shift by 8i as a constant.
+fn through_position(rows: &mut [u64], i: usize) {
+    match i {
+        0 => through_eight::<0>(rows),
+        1 => through_eight::<1>(rows),
+        2 => through_eight::<2>(rows),
+        3 => through_eight::<3>(rows),
+        4 => through_eight::<4>(rows),
+        5 => through_eight::<5>(rows),
+        6 => through_eight::<6>(rows),
+        _ => through_eight::<7>(rows),
     }
 }
 
@@ -152,12 +153,12 @@ fn through_eight<const I: usize>(rows: &mut [u64]) {
 }
 
 /// The blocks of a rule's positions, as they stand in its relation.
-pub type Blocks = [u64; 8];
+type Blocks = [u64; 8];
 
 /// What IDP and EDP are computed in: each rule's relation and its blocks.
 pub struct Relations<'a> {
-    pub before: &'a mut [Before],
-    pub blocks: Vec<Blocks>,
+    before: &'a mut [Before],
+    blocks: Vec<Blocks>,
 }
 
 impl<'a> Relations<'a> {
