@@ -84,15 +84,25 @@ pub struct Table {
 impl Table {
     /// The parts of words that can be read, else none.
     pub fn read(words: &[u16]) -> Option<Table> {
-        let g = Grammar::read(words).ok()?;
-        let symbols = g.symbols.iter().map(|s| (s.terminal as usize, s.attributes, s.inherited as usize)).collect();
-        let function = |f: &crate::grammar::Function| Function {
-            target: f.target as usize,
-            op: f.op as usize,
-            args: f.args[..arity(f.op as usize)].to_vec(),
-        };
-        let rule = |r: &crate::grammar::Rule| Rule { symbols: r.symbols.clone(), functions: r.functions.iter().map(function).collect() };
-        Some(Table { start: g.start, symbols, rules: g.rules.iter().map(rule).collect() })
+        Grammar::read(words).ok()?;
+        let mut rest = words.iter().map(|&w| w as usize);
+        let mut next = || rest.next().unwrap();
+        let (count, rules, start) = (next(), next(), next());
+        let symbols = (0..count).map(|_| (next(), next(), next())).collect();
+        let rules = (0..rules)
+            .map(|_| {
+                let (left, right) = (next(), next());
+                let symbols = std::iter::once(left).chain((0..right).map(|_| next())).collect();
+                let functions = (0..next())
+                    .map(|_| {
+                        let (target, op) = (next(), next());
+                        Function { target, op, args: (0..arity(op)).map(|_| next() as u16).collect() }
+                    })
+                    .collect();
+                Rule { symbols, functions }
+            })
+            .collect();
+        Some(Table { start, symbols, rules })
     }
 
     /// Whether each symbol stands in some tree of the start symbol.
@@ -279,18 +289,97 @@ pub fn longest() -> Table {
     Table { start: 0, symbols, rules: vec![rule; 64] }
 }
 
+/// The longest table that can be read, 25,315 words: the one above with four arguments everywhere, and so a cycle in each rule.
+pub fn longest_cyclic() -> Table {
+    let mut t = longest();
+    t.rules.iter_mut().for_each(|r| (r.functions[0].op, r.functions[0].args) = (8, vec![9; 4]));
+    t
+}
+
+/// A function of all these arguments, of four at most.
+fn function(target: usize, from: &[usize]) -> Function {
+    let from = &from[..from.len().min(4)];
+    let op = [0, 1, 2, 7, 8][from.len()];
+    let args = if op == 0 { vec![target as u16] } else { from.iter().map(|&a| a as u16).collect() };
+    Function { target, op, args }
+}
+
+/// An ordered table whose induced arcs need 92 passes over the rules in their order: in each of three pairs of attributes (synthesized p, inherited 3 + p) the arc
+/// climbs a chain of 31 symbols, a rule a pass since the rules stand from the top to the bottom; and what arrives at the top is what the next pair
+/// starts from at the bottom. Each rule has its one child so many times.
+pub fn many_rounds(right: usize) -> Table {
+    const CHAIN: usize = 31;
+    let (s, i) = (|p: usize| p, |p: usize| 3 + p);
+    let mut symbols = vec![(0, 1, 0)];
+    symbols.resize(1 + CHAIN, (0, 6, 0b11_1000));
+    // A rule by what each synthesized attribute of its left side has of its children, and each inherited one of its children of the left side.
+    let rule = |left: usize, child: usize, up: &dyn Fn(usize) -> Option<usize>, down: &dyn Fn(usize) -> Option<usize>| {
+        let places: Vec<usize> = (1..=right).map(|k| 8 * k).collect();
+        let mut functions = Vec::new();
+        for p in 0..3 {
+            functions.push(function(s(p), &up(p).map_or(vec![], |q| places.iter().map(|at| at + s(q)).collect::<Vec<_>>())));
+            functions.extend(places.iter().map(|at| function(at + i(p), &down(p).map_or(vec![], |q| vec![i(q)]))));
+        }
+        Rule { symbols: [vec![left], vec![child; right]].concat(), functions }
+    };
+    let top = Rule { symbols: vec![0, 1], functions: [vec![function(0, &[8])], (3..6).map(|a| function(8 + a, &[])).collect()].concat() };
+    let bottom = Rule { symbols: vec![CHAIN], functions: vec![function(s(0), &[i(0)]), function(s(1), &[]), function(s(2), &[])] };
+    let mut rules = vec![top];
+    rules.extend((1..CHAIN).map(|x| rule(x, x + 1, &Some, &Some)));
+    rules.push(bottom);
+    rules.push(rule(CHAIN, 1, &|p| p.checked_sub(1), &|p| (p < 2).then_some(p + 1)));
+    Table { start: 0, symbols, rules }
+}
+
+/// A table at full size that is not ordered, though no IDP has a cycle: in each of 64 rules of length 7, each child's inherited attributes want the next
+/// child's synthesized ones, and the last child's the first's.
+pub fn crossed_at_full_size() -> Table {
+    let rule = |left: usize| {
+        let mut functions: Vec<Function> = (0..if left == 0 { 1 } else { 4 }).map(|a| function(a, &[8, 16, 24, 32].map(|at| at + a))).collect();
+        for k in 1..8 {
+            let next = 8 * (k % 7 + 1);
+            functions.extend((4..8).map(|a| function(8 * k + a, &[next, next + 1, next + 2, next + 3])));
+        }
+        Rule { symbols: [vec![left], vec![1; 7]].concat(), functions }
+    };
+    let mut rules = vec![rule(0)];
+    rules.resize(63, rule(1));
+    rules.push(Rule { symbols: vec![1], functions: (0..4).map(|a| function(a, &[])).collect() });
+    Table { start: 0, symbols: vec![(0, 1, 0), (0, 8, 0xf0)], rules }
+}
+
+/// A dense ordered table of 64 rules of length 7 with 8 attributes a symbol, every function with as many arguments as there are up to four. They are
+/// drawn from what comes before in one walk from left to right; or, with phases, from lower attributes, which alternate between the classes.
+pub fn dense(phases: bool, seed: u64) -> Table {
+    let mut rng = Rng::new(seed);
+    // With few symbols their phases show in IDS, and the table is ordered.
+    let count = if phases { 4 } else { 32 };
+    let symbols: Vec<(usize, usize, usize)> = (0..count).map(|x| (0, 8, if x == 0 { 0 } else if phases { 0xaa } else { 0xf0 })).collect();
+    let rules = (0..64)
+        .map(|r| {
+            let parts: Vec<usize> = std::iter::once(r % count).chain((0..7).map(|_| rng.between(1, count - 1))).collect();
+            // When an occurrence comes: by phase and then by place, the left side's synthesized ones after those of the children.
+            let class = |o: usize| symbols[parts[o / 8]].2 >> (o % 8) & 1;
+            let place = |o: usize| if o < 8 && class(o) == 0 { 8 } else { o / 8 };
+            let when = |o: usize| if phases { (o % 8, place(o), 0) } else { (0, place(o), 1 - class(o)) };
+            let all: Vec<usize> = (0..8 * parts.len()).collect();
+            let mut functions = Vec::new();
+            for &target in all.iter().filter(|&&o| (class(o) == 1) == (o >= 8)) {
+                let mut from: Vec<usize> = all.iter().copied().filter(|&o| when(o) < when(target)).collect();
+                (1..from.len()).rev().for_each(|k| from.swap(k, rng.below(k + 1)));
+                functions.push(function(target, &from));
+            }
+            Rule { symbols: parts, functions }
+        })
+        .collect();
+    Table { start: 0, symbols, rules }
+}
+
 /// Rules of one length over a nonterminal whose eight attributes take five visits: synthesized at even places, inherited at odd ones, each from the
 /// one before. Its children go through the visits side by side. The last rule ends a tree, the one before it continues with one child.
 pub fn five_visits(rules: usize, right: usize, attributes: usize) -> Table {
     let mask = 0xaa & ((1 << attributes) - 1);
     let symbols = vec![(0, 1, 0), (0, attributes, mask)];
-    let function = |target: usize, from: &[usize]| match from {
-        [] => Function { target, op: 0, args: vec![target as u16] },
-        [a] => Function { target, op: 1, args: vec![*a as u16] },
-        [a, b] => Function { target, op: 2, args: vec![*a as u16, *b as u16] },
-        [a, b, c] => Function { target, op: 7, args: vec![*a as u16, *b as u16, *c as u16] },
-        [a, b, c, d, ..] => Function { target, op: 8, args: vec![*a as u16, *b as u16, *c as u16, *d as u16] },
-    };
     let rule = |left: usize, n: usize| {
         let mut functions = Vec::new();
         for a in 0..attributes {

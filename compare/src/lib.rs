@@ -1,12 +1,20 @@
-//! An independent implementation of document 01, in ordinary Rust: the tests compare the proved one with it, word for word,
-//! and the benchmarks measure both in one run. It was written from the documents, not from the proved code.
+//! An independent implementation of document 01, in plain Rust: the tests compare the proved one with it, word for word, and the benchmarks measure both
+//! in one process. It was written from the documents, not from the proved code. It is meant to be as fast as safe Rust with loops, arrays and operations
+//! on 64-bit words can be, so that a ratio of 1 means something: a set is one word wherever it fits.
+//!
+//! In the order of the data: `grammar` reads the table, `relations` has IDP, IDS and EDP, `sets` the sets and visits, `sequences` the visit-sequences,
+//! `plan` puts them together, `tree` checks a tree, `run` runs it. `cases` and `shrink` make inputs, `proved` calls the proved code.
 
 pub mod cases;
 pub mod grammar;
 pub mod plan;
 pub mod proved;
+mod relations;
 pub mod run;
+mod sequences;
+mod sets;
 pub mod shrink;
+mod tree;
 
 /// A refusal: document 01's number, place and second place.
 #[derive(Debug, Clone, Copy, PartialEq, Eq)]

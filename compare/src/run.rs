@@ -1,96 +1,148 @@
-//! The tree, its checks, and the stack automaton.
+//! The stack automaton.
 
-use crate::grammar::{Function, Grammar};
+use crate::grammar::{arity, Grammar};
 use crate::plan::planned;
+use crate::relations::bits;
+use crate::sequences::Sequence;
+use crate::tree::{check, Node};
 use crate::{Ran, Refusal};
 
-const TERMINAL: u16 = 32768;
+#[derive(Clone, Copy)]
+enum Kind {
+    Constant,
+    Copy,
+    Sum,
+    Difference,
+    Larger,
+    Smaller,
+    Less,
+    Choose,
+    Served,
+    Visit,
+    Leave,
+}
 
-fn symbol(g: &Grammar, word: u16) -> usize {
-    if word < TERMINAL {
-        g.rules[word as usize].symbols[0]
-    } else {
-        (word - TERMINAL) as usize
+/// The operations by their numbers.
+const OPERATIONS: [Kind; 9] =
+    [Kind::Constant, Kind::Copy, Kind::Sum, Kind::Difference, Kind::Larger, Kind::Smaller, Kind::Less, Kind::Choose, Kind::Served];
+
+/// An action with all that it needs.
+#[derive(Clone, Copy)]
+struct Step {
+    kind: Kind,
+    /// The occurrence that is computed, or the child that is visited.
+    at: u8,
+    arguments: [u8; 4],
+    /// A constant; after a visit or a leave, the place in the program at which the node goes on.
+    number: u16,
+}
+
+impl Step {
+    fn to(kind: Kind, at: u8, number: u16) -> Self {
+        Step { kind, at, arguments: [0; 4], number }
     }
 }
 
-fn used(g: &Grammar, word: u16) -> usize {
-    if word < TERMINAL {
-        g.rules[word as usize].symbols.len() - 1
-    } else {
-        0
+/// The sequences of those rules that have a node, one after the other; where each begins, and how long it is.
+struct Program {
+    steps: Vec<Step>,
+    begins: [u16; 64],
+    lengths: [u16; 64],
+}
+
+impl Program {
+    fn new(g: &Grammar, words: &[u16], sequences: &[Sequence], rules: u64) -> Self {
+        let mut program = Program { steps: Vec::with_capacity(128), begins: [0; 64], lengths: [0; 64] };
+        let mut computes = [Step::to(Kind::Leave, 0, 0); 64];
+        for r in bits(rules) {
+            let rule = &g.rules[r];
+            let mut at = rule.functions;
+            for _ in 0..rule.count {
+                let (target, op) = (words[at] as usize, words[at + 1] as usize);
+                let arguments = &words[at + 2..at + 2 + arity(op)];
+                let mut step = Step::to(OPERATIONS[op], target as u8, arguments[0]);
+                step.arguments.iter_mut().zip(arguments).for_each(|(to, &w)| *to = w as u8);
+                computes[target] = step;
+                at += 2 + arguments.len();
+            }
+            let begin = program.steps.len() as u16;
+            let (&length, actions) = sequences[r].split_first().unwrap();
+            (program.begins[r], program.lengths[r]) = (begin, length);
+            program.steps.extend(actions[..length as usize].iter().zip(begin + 1..).map(|(&action, next)| match action {
+                0..=63 => computes[action as usize],
+                64..=127 => Step::to(Kind::Visit, (action - 64) as u8 / 8, next),
+                _ => Step::to(Kind::Leave, 0, next),
+            }));
+        }
+        program
     }
 }
 
-fn check(g: &Grammar, tree: &[u16], values: usize) -> Result<(), Refusal> {
-    let nodes = tree.len() / 8;
-    if tree.len() % 8 != 0 || nodes == 0 || nodes > 1024 {
-        return Err(Refusal::at(12, 0));
-    }
-    for (n, node) in tree.chunks_exact(8).enumerate() {
-        let known = if node[0] < TERMINAL {
-            (node[0] as usize) < g.rules.len()
-        } else {
-            g.symbols.get((node[0] - TERMINAL) as usize).is_some_and(|s| s.terminal)
-        };
-        if !known {
-            return Err(Refusal::at(13, n));
-        }
-        let used = used(g, node[0]);
-        for (i, &child) in node.iter().enumerate().skip(1) {
-            let child = child as usize;
-            let fits = if i <= used { child > n && child < nodes } else { child == 0 };
-            if !fits {
-                return Err(Refusal::at(14, n));
-            }
-        }
-    }
-    if symbol(g, tree[0]) != g.start {
-        return Err(Refusal::at(15, 0));
-    }
-    for (n, node) in tree.chunks_exact(8).enumerate() {
-        for i in 1..=used(g, node[0]) {
-            if symbol(g, tree[8 * node[i] as usize]) != g.rules[node[0] as usize].symbols[i] {
-                return Err(Refusal::at(16, n));
-            }
-        }
-    }
-    let mut named = vec![0u32; nodes];
-    for node in tree.chunks_exact(8) {
-        for i in 1..=used(g, node[0]) {
-            named[node[i] as usize] += 1;
-        }
-    }
-    if let Some(n) = (1..nodes).find(|&n| named[n] != 1) {
-        return Err(Refusal::at(17, n));
-    }
-    if values < 8 * nodes {
-        return Err(Refusal::at(18, 0));
-    }
-    Ok(())
+/// Where an occurrence of the node at work lies: each position has its node in `family`. There is room for any byte, so that no index has to be tested.
+fn cell(family: &[u16; 32], o: u8) -> (usize, usize) {
+    (family[o as usize / 8] as usize, o as usize % 8)
 }
 
-fn value(f: &Function, get: impl Fn(u16) -> i32) -> i32 {
-    let arg = |j: usize| get(f.args[j]);
-    match f.op {
-        0 => f.args[0] as i16 as i32,
-        1 => arg(0),
-        2 => arg(0).saturating_add(arg(1)),
-        3 => arg(0).saturating_sub(arg(1)),
-        4 => arg(0).max(arg(1)),
-        5 => arg(0).min(arg(1)),
-        6 => (arg(0) < arg(1)) as i32,
-        7 => {
-            if arg(0) != 0 {
-                arg(1)
-            } else {
-                arg(2)
+/// Runs the sequences until the root's last leave; where the budget may not last, no further than that. The node at work is kept apart from the stack,
+/// which has those that wait for a child and their places in the program; a node that is off the stack and not at work has its place in `places`.
+#[inline(never)]
+fn automaton<const LIMITED: bool>(steps: &[Step], mut places: [u16; 1024], nodes: &[Node], values: &mut [[i32; 8]], mut budget: u32) {
+    let mut stack = [(0u16, 0u16); 1024];
+    let mut depth = 0;
+    let (mut node, mut place) = (0, places[0]);
+    let mut family = [0; 32];
+    'moves: loop {
+        // The node itself stands where its rule stood: position 0 is the left side.
+        family[..8].copy_from_slice(&nodes[node as usize]);
+        family[0] = node;
+        for step in &steps[place as usize..] {
+            if LIMITED {
+                if budget == 0 {
+                    return;
+                }
+                budget -= 1;
             }
+            let argument = |j: usize| {
+                let (n, a) = cell(&family, step.arguments[j]);
+                values[n][a]
+            };
+            let result = match step.kind {
+                Kind::Constant => step.number as i16 as i32,
+                Kind::Copy => argument(0),
+                Kind::Sum => argument(0).saturating_add(argument(1)),
+                Kind::Difference => argument(0).saturating_sub(argument(1)),
+                Kind::Larger => argument(0).max(argument(1)),
+                Kind::Smaller => argument(0).min(argument(1)),
+                Kind::Less => (argument(0) < argument(1)) as i32,
+                Kind::Choose => {
+                    let (x, y, z) = (argument(0), argument(1), argument(2));
+                    if x != 0 { y } else { z }
+                }
+                Kind::Served => {
+                    let (p, s, q, t) = (argument(0), argument(1), argument(2), argument(3));
+                    (p > q || p == q && s < t) as i32
+                }
+                Kind::Visit => {
+                    stack[depth] = (node, step.number);
+                    depth += 1;
+                    node = family[step.at as usize % 8];
+                    place = places[node as usize];
+                    continue 'moves;
+                }
+                Kind::Leave => {
+                    if depth == 0 {
+                        return;
+                    }
+                    places[node as usize] = step.number;
+                    depth -= 1;
+                    (node, place) = stack[depth];
+                    continue 'moves;
+                }
+            };
+            let (n, a) = cell(&family, step.at);
+            values[n][a] = result;
         }
-        _ => {
-            let (p, s, q, t) = (arg(0), arg(1), arg(2), arg(3));
-            (p > q || (p == q && s < t)) as i32
-        }
+        unreachable!("a sequence ends with a leave");
     }
 }
 
@@ -103,46 +155,23 @@ pub fn run(
     values: &mut [i32],
     budget: u32,
 ) -> Result<Ran, Refusal> {
-    let p = planned(words, rows, plan)?;
-    let g = &p.grammar;
-    check(g, tree, values.len())?;
-    // The function of each occurrence, by rule.
-    let functions: Vec<[Option<&Function>; 64]> = g
-        .rules
-        .iter()
-        .map(|rule| {
-            let mut by = [None; 64];
-            for f in &rule.functions {
-                by[f.target as usize] = Some(f);
-            }
-            by
-        })
-        .collect();
-    let mut places = vec![0usize; tree.len() / 8];
-    let mut stack = vec![0usize];
-    let mut count = 0;
-    while let Some(&n) = stack.last() {
-        if count == budget {
-            return Ok(Ran::Stopped(count));
-        }
-        let r = tree[8 * n] as usize;
-        let action = p.sequences[r][places[n]] as usize;
-        places[n] += 1;
-        count += 1;
-        let cell = |o: u16| {
-            let (i, a) = (o as usize / 8, o as usize % 8);
-            let node = if i == 0 { n } else { tree[8 * n + i] as usize };
-            8 * node + a
-        };
-        if action < 64 {
-            let f = functions[r][action].unwrap();
-            let v = value(f, |o| values[cell(o)]);
-            values[cell(action as u16)] = v;
-        } else if action < 128 {
-            stack.push(tree[8 * n + (action - 64) / 8] as usize);
-        } else {
-            stack.pop();
+    let g = planned(words, rows, plan)?;
+    let (nodes, rules) = check(&g, tree, values.len())?;
+    let program = Program::new(&g, words, plan[256..].as_chunks().0, rules);
+    // Every node goes through its whole sequence: a budget of the summed lengths is enough.
+    let mut total = 0;
+    let mut places = [0; 1024];
+    for (place, node) in places.iter_mut().zip(nodes) {
+        if let Some(&length) = program.lengths.get(node[0] as usize) {
+            *place = program.begins[node[0] as usize];
+            total += length as u32;
         }
     }
-    Ok(Ran::Done(count))
+    let values = values.as_chunks_mut().0;
+    if budget >= total {
+        automaton::<false>(&program.steps, places, nodes, values, budget);
+        return Ok(Ran::Done(total));
+    }
+    automaton::<true>(&program.steps, places, nodes, values, budget);
+    Ok(Ran::Stopped(budget))
 }

@@ -1,6 +1,8 @@
 //! The proved code against the independent implementation: answers and every word of every buffer, on seeded cases.
 
-use independent::cases::{budgets, case, five_visits, five_visits_tree, lines, longest, table, variations, Case, Rng, Table, G};
+use independent::cases::{
+    budgets, case, crossed_at_full_size, dense, five_visits, five_visits_tree, lines, longest, longest_cyclic, many_rounds, table, variations, Case, Rng, Table, G,
+};
 use independent::plan::visits;
 use independent::shrink::shrink;
 use independent::{plan, proved, run, Ran, Refusal};
@@ -160,11 +162,11 @@ impl Seen {
             let values = (0..tree.len() as i32).map(|v| v * 7919 % 1000 - 500).collect();
             Case { words, rows: vec![!0; 64 * rules], plan: vec![!0; 256 + 112 * rules], tree, values, budget: u32::MAX }
         };
-        // With four arguments everywhere it is the longest that can be read, and cyclic.
-        let mut cyclic = longest();
-        cyclic.rules.iter_mut().for_each(|r| (r.functions[0].op, r.functions[0].args) = (8, vec![9; 4]));
-        assert_eq!(cyclic.words().len(), 25_315);
-        let mut cases = vec![whole(longest().words(), Vec::new()), whole(cyclic.words(), Vec::new())];
+        assert_eq!(longest_cyclic().words().len(), 25_315);
+        let mut tables = vec![longest(), longest_cyclic(), crossed_at_full_size()];
+        tables.extend((1..8).map(many_rounds));
+        tables.extend((0..40).flat_map(|seed| [dense(false, seed), dense(true, seed)]));
+        let mut cases: Vec<Case> = tables.iter().map(|t| whole(t.words(), Vec::new())).collect();
         for count in [1, 2, 510, 511, 512] {
             cases.push(whole(G.to_vec(), lines(count)));
         }
