@@ -66,6 +66,10 @@ module _ (g rows plan : List ℕ) where
           stays = record { rowsBeyond = rows-stay g rows plan; planBeyond = plan-stay g rows plan }
       }
 
+  -- "Every table, tree and buffer size gets an answer."
+  pub every-plan : (answer : P.Planned) × (rows′ : List ℕ) × (plan′ : List ℕ) × Demand1 g rows plan answer rows′ plan′
+  every-plan = (answerOf g came, rowsAfter g came rows, planAfter g came plan, computed-1)
+
   -- Demand 1, of `plan`.
   pub demand-1 : (answer : P.Planned) (rows′ plan′ : List ℕ) → Answered g rows plan answer rows′ plan′ → Demand1 g rows plan answer rows′ plan′
   demand-1 answer rows′ plan′ w =
@@ -153,6 +157,11 @@ module _ (g rows plan t : List ℕ) (v : List ℤ) (budget : ℕ) where
           written = λ none. written-accepted g rows plan (outcome-accepted g (length rows) (length plan) .1 (λ n c. none n (inPlan c)));
           stays = record { rowsBeyond = rows-stay g rows plan; planBeyond = plan-stay g rows plan }
       }
+
+  pub every-run : (report : Report) × (v′ : List ℤ) × (rows′ : List ℕ) × (plan′ : List ℕ) × Demand1Run g rows plan t v report v′ rows′ plan′
+  every-run =
+      (record { ran = whole.answer g rows plan t v budget }, whole.values g rows plan t v budget, rowsAfter g reached rows, planAfter g reached plan,
+      computed-1-run)
 
   -- Demand 1, of `run`.
   pub demand-1-run : (report : Report) (v′ : List ℤ) (rows′ plan′ : List ℕ) → runner.Answered g rows plan t v budget report v′ rows′ plan′
