@@ -58,8 +58,8 @@ module _ (f : ℕ → Bool) where
   count-find (suc n) h =
       ⊎-elim (λ t. (n, omega arith, t))
       (λ t.
-          let w = count-find n (omega (arith, count-no n (λ s. T-not (f n) t s))) in
-          (w .0, omega (arith, w .1), w .2)) (tested (f n))
+      let w = count-find n (omega (arith, count-no n (λ s. T-not (f n) t s))) in
+      (w .0, omega (arith, w .1), w .2)) (tested (f n))
 
   -- two that pass count two
   pub count-two : (n j k : ℕ) → j < k → k < n → T (f j) → T (f k) → 2 ≤ count n f

@@ -32,9 +32,9 @@ getD-tabulate (suc n) f d i h =
     ⊎-elim
     (λ l. List·getD-append (tabulate n f) (f n ∷ []) d i (omega (arith, length-tabulate n f)) ∙ getD-tabulate n f d i l)
     (λ e.
-        let z : i - length (tabulate n f) ≡ 0 = omega (arith, length-tabulate n f) in
-        getD-past (tabulate n f) (f n ∷ []) d i (omega (arith, length-tabulate n f))
-        ∙ (ap (λ (j : ℕ). getD (f n ∷ []) j d) z ∙ ap f (sym e))) (below-suc i n h)
+    let z : i - length (tabulate n f) ≡ 0 = omega (arith, length-tabulate n f) in
+    getD-past (tabulate n f) (f n ∷ []) d i (omega (arith, length-tabulate n f))
+    ∙ (ap (λ (j : ℕ). getD (f n ∷ []) j d) z ∙ ap f (sym e))) (below-suc i n h)
 
 pub length-blocks {ℓ} : {A : Type ℓ} (w n : ℕ) (f : ℕ → List A) → ((k : ℕ) → k < n → length (f k) ≡ w) → length (blocks n f) ≡ n * w
 unfolding blocks
@@ -55,12 +55,12 @@ getD-blocks w (suc n) f d h i j l m =
     let before : length (blocks n f) ≡ n * w = length-blocks w n f (λ k p. h k (omega arith)) in
     ⊎-elim
     (λ p.
-        List·getD-append (blocks n f) (f n) d (i * w + j) (subst⁻¹ (λ (x : ℕ). i * w + j < x) before (block-inside w i j n p m))
-        ∙ getD-blocks w n f d (λ k q. h k (omega arith)) i j p m)
+    List·getD-append (blocks n f) (f n) d (i * w + j) (subst⁻¹ (λ (x : ℕ). i * w + j < x) before (block-inside w i j n p m))
+    ∙ getD-blocks w n f d (λ k q. h k (omega arith)) i j p m)
     (λ e.
-        let at : i * w + j ≡ length (blocks n f) + j = ap (λ (x : ℕ). x * w + j) e ∙ ap (λ (x : ℕ). x + j) (sym before) in
-        ap (λ (x : ℕ). getD (blocks n f ++ f n) x d) at
-        ∙ (getD-append-add (blocks n f) (f n) j d ∙ ap (λ (x : ℕ). getD (f x) j d) (sym e))) (below-suc i n l)
+    let at : i * w + j ≡ length (blocks n f) + j = ap (λ (x : ℕ). x * w + j) e ∙ ap (λ (x : ℕ). x + j) (sym before) in
+    ap (λ (x : ℕ). getD (blocks n f ++ f n) x d) at
+    ∙ (getD-append-add (blocks n f) (f n) j d ∙ ap (λ (x : ℕ). getD (f x) j d) (sym e))) (below-suc i n l)
 
 pub length-padded : (n : ℕ) (xs : List ℕ) → length xs ≤ n → length (padded n xs) ≡ n
 unfolding padded
@@ -151,5 +151,5 @@ any-find f [] t = absurd t
 any-find f (y ∷ ys) t =
     ⊎-elim (λ s. (y, or-left (eqb y y) (member y ys) (eqb-refl y), s))
     (λ s.
-        let w : (x : ℕ) × T (member x ys) × T (f x) = any-find f ys s in
-        (w .0, or-right (eqb (w .0) y) (member (w .0) ys) (w .1), w .2)) (or-cases (f y) (any f ys) t)
+    let w : (x : ℕ) × T (member x ys) × T (f x) = any-find f ys s in
+    (w .0, or-right (eqb (w .0) y) (member (w .0) ys) (w .1), w .2)) (or-cases (f y) (any f ys) t)

@@ -151,8 +151,8 @@ all-fails zero f t = absurd t
 all-fails (suc n) f t =
     ⊎-elim
     (λ s.
-        ⊎-elim (λ p. absurd (T-not (all n f and f n) t (and-intro (all n f) (f n) s p))) (λ p. (n, omega arith, p))
-        (tested (f n)))
+    ⊎-elim (λ p. absurd (T-not (all n f and f n) t (and-intro (all n f) (f n) s p))) (λ p. (n, omega arith, p))
+    (tested (f n)))
     (λ s. let w : (k : ℕ) × (k < n) × T (not (f k)) = all-fails n f s in (w .0, omega (arith, w .1), w .2))
     (tested (all n f))
 
@@ -175,11 +175,11 @@ step-least n f m w = go (ltb m n) refl (f n) refl
     go false e false d =
         let l : m ≡ n = omega (arith, w .inside, nltb→le m n (false-T (ltb m n) e)) in
         record {
-            inside = omega arith;
-            passes = λ h. absurd (omega arith);
-            lowest = λ k h t.
-                ⊎-elim (λ i. w .lowest k (omega arith) t)
-                (λ i. T-not (f n) (false-T (f n) d) (subst (λ (j : ℕ). T (f j)) i t)) (below-suc k n h)
+          inside = omega arith;
+          passes = λ h. absurd (omega arith);
+          lowest = λ k h t.
+              ⊎-elim (λ i. w .lowest k (omega arith) t)
+              (λ i. T-not (f n) (false-T (f n) d) (subst (λ (j : ℕ). T (f j)) i t)) (below-suc k n h);
         }
 
 pub least-is : (n : ℕ) (f : ℕ → Bool) → Least n f (least n f)
@@ -193,8 +193,8 @@ pub least-one : (n : ℕ) (f : ℕ → Bool) (m p : ℕ) → Least n f m → Lea
 least-one n f m p v w =
     ⊎-elim (λ l. absurd (w .lowest m l (v .passes (omega (arith, w .inside)))))
     (λ l.
-        ⊎-elim (λ k. absurd (v .lowest p k (w .passes (omega (arith, v .inside))))) (λ k. omega arith)
-        (below-or-not p m)) (below-or-not m p)
+    ⊎-elim (λ k. absurd (v .lowest p k (w .passes (omega (arith, v .inside))))) (λ k. omega arith)
+    (below-or-not p m)) (below-or-not m p)
 
 -- the least number that passes is below n exactly where some number passes
 pub least-some : (n : ℕ) (f : ℕ → Bool) → T (some n f) → least n f < n
@@ -235,14 +235,15 @@ count-more (suc n) f h m j l s t =
     ⊎-elim
     (λ i. go (f n) (h n) (m n (omega arith)) (count-more n f h (λ k p. m k (omega arith)) j i s t))
     (λ i.
-        same (f n) (h n) (subst (λ (x : ℕ). T (not (f x))) i s) (subst (λ (x : ℕ). T (h x)) i t)
-        (count-mono n f h (λ k p. m k (omega arith)))) (below-suc j n l)
+    same (f n) (h n) (subst (λ (x : ℕ). T (not (f x))) i s) (subst (λ (x : ℕ). T (h x)) i t)
+    (count-mono n f h (λ k p. m k (omega arith)))) (below-suc j n l)
   where
     go : (a b : Bool) → (T a → T b) → count n f < count n h → count n f + cond a 1 0 < count n h + cond b 1 0
     go true true i p = omega arith
     go true false i p = absurd (i tt)
     go false true i p = omega arith
     go false false i p = omega arith
+
     same : (a b : Bool) → T (not a) → T b → count n f ≤ count n h → count n f + cond a 1 0 < count n h + cond b 1 0
     same true b p q r = absurd p
     same false true p q r = omega arith

@@ -85,7 +85,7 @@ lowest-of-zero w = sym (trailing-lowest w 0) ∙ trailing-of-zero w
 pub first-of : (s l : ℕ) → l ≡ lowest 64 s → s < 2 ^ 64 → 0 < s → First s l
 first-of s l e h p =
     record {
-        is = e;
-        small = subst⁻¹ (λ (x : ℕ). x < 64) e (lowest-lt 64 s h p);
-        member = subst⁻¹ (λ (x : ℕ). bit x s ≡ 1) e (bit-lowest 64 s h p)
+      is = e;
+      small = subst⁻¹ (λ (x : ℕ). x < 64) e (lowest-lt 64 s h p);
+      member = subst⁻¹ (λ (x : ℕ). bit x s ≡ 1) e (bit-lowest 64 s h p);
     }

@@ -70,9 +70,10 @@ none-left i = false-T _ (bit-lacks i 0 (bit-of-zero i))
 -- a member of what two sets share is one of both, and of what one lacks of the other is one of the first alone
 pub common-both : (a s t : ℕ) → T (hasb a (common s t)) → T (hasb a s) × T (hasb a t)
 common-both a s t h =
-    let e : bit a (common s t) ≡ 1 = has-bit a (common s t) (T-true _ h) in
-    (true-T _ (bit-has a s (omega (arith, e, bit-common a s t, bit-le a s, bit-le a t))),
-    true-T _ (bit-has a t (omega (arith, e, bit-common a s t, bit-le a s, bit-le a t))))
+    let e : bit a (common s t) ≡ 1 = has-bit a (common s t) (T-true _ h) in (
+      true-T _ (bit-has a s (omega (arith, e, bit-common a s t, bit-le a s, bit-le a t))),
+      true-T _ (bit-has a t (omega (arith, e, bit-common a s t, bit-le a s, bit-le a t))),
+    )
 
 pub both-common : (a s t : ℕ) → T (hasb a s) → T (hasb a t) → T (hasb a (common s t))
 both-common a s t h l =
@@ -80,9 +81,10 @@ both-common a s t h l =
 
 pub minus-both : (a s t : ℕ) → T (hasb a (minus s t)) → T (hasb a s) × T (not (hasb a t))
 minus-both a s t h =
-    let e : bit a (minus s t) ≡ 1 = has-bit a (minus s t) (T-true _ h) in
-    (true-T _ (bit-has a s (omega (arith, e, bit-minus a s t, bit-le a s))),
-    false-T _ (bit-lacks a t (omega (arith, e, bit-minus a s t, bit-le a s))))
+    let e : bit a (minus s t) ≡ 1 = has-bit a (minus s t) (T-true _ h) in (
+      true-T _ (bit-has a s (omega (arith, e, bit-minus a s t, bit-le a s))),
+      false-T _ (bit-lacks a t (omega (arith, e, bit-minus a s t, bit-le a s))),
+    )
 
 pub both-minus : (a s t : ℕ) → T (hasb a s) → T (not (hasb a t)) → T (hasb a (minus s t))
 both-minus a s t h l =

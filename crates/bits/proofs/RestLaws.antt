@@ -29,7 +29,7 @@ and-less w (suc l) s h m f =
     let half : (s - 1) / 2 ≡ s / 2 - 1 = omega arith in
     let e : bitAnd s (s - 1) ≡ bitAnd (s / 2) ((s - 1) / 2) * 2 + min (s % 2) ((s - 1) % 2) = and-step s (s - 1) in
     let ih : bitAnd (s / 2) (s / 2 - 1) ≡ s / 2 - bit l (s / 2) * 2 ^ l =
-            and-less w l (s / 2) (omega arith) member (λ i k. sym (bit-suc i s) ∙ f (suc i) (omega arith)) in
+    and-less w l (s / 2) (omega arith) member (λ i k. sym (bit-suc i s) ∙ f (suc i) (omega arith)) in
     let same : bitAnd (s / 2) ((s - 1) / 2) ≡ s / 2 - bit l (s / 2) * 2 ^ l = ap (bitAnd (s / 2)) half ∙ ih in
     let twice : 2 ^ suc l ≡ 2 ^ l * 2 = pow-suc 2 l in
     let one : bit l (s / 2) * 2 ^ l ≡ 1 * 2 ^ l = ap (λ (n : ℕ). n * 2 ^ l) member in

@@ -9,8 +9,24 @@ use lib.ListN.{getD}
 use Rattle.basics.proofs.TestLaws.{below-or-not}
 use Rattle.refusals.specs.declared.Refusal.{Refusal}
 use Rattle.refusals.specs.declared.Refusal.the-variants.{
-    EndsEarly, OutOfRange, WrongClass, NoOccurrence, NotDefining, Undefined, LeftOver, TooShort, CircularIdp, CircularEdp, Stuck,
-    TreeSize, NoSuchRule, BadChild, RootNotStart, ChildDiffers, NotOneParent, ValuesTooShort
+  EndsEarly,
+  OutOfRange,
+  WrongClass,
+  NoOccurrence,
+  NotDefining,
+  Undefined,
+  LeftOver,
+  TooShort,
+  CircularIdp,
+  CircularEdp,
+  Stuck,
+  TreeSize,
+  NoSuchRule,
+  BadChild,
+  RootNotStart,
+  ChildDiffers,
+  NotOneParent,
+  ValuesTooShort,
 }
 use Rattle.refusals.specs.Numbers.{numberOf, placeOf, secondOf}
 use Rattle.grammar.specs.declared.Verdict.{Verdict}
@@ -81,14 +97,17 @@ module _ (g : List ℕ) where
       by-number w t s (lower l) = inl (lowerNumber w t s l)
       by-number w t s (same e) = inr (inr (same-case m n e t s))
       by-number w t s (higher l) = inr (inl (lowerNumber (sym w) (sym t) (sym s) l))
+
       by-second : walk g m ≡ walk g n → placeOf m ≡ placeOf n → Compared (secondOf m) (secondOf n) → Earlier g m n ⊎ Earlier g n m ⊎ (m ≡ n)
       by-second w t (lower l) = inl (lowerOccurrence w t l)
       by-second w t (same e) = by-number w t e (compared (numberOf m) (numberOf n))
       by-second w t (higher l) = inr (inl (lowerOccurrence (sym w) (sym t) l))
+
       by-place : walk g m ≡ walk g n → Compared (placeOf m) (placeOf n) → Earlier g m n ⊎ Earlier g n m ⊎ (m ≡ n)
       by-place w (lower l) = inl (earlierPlace w l)
       by-place w (same e) = by-second w e (compared (secondOf m) (secondOf n))
       by-place w (higher l) = inr (inl (earlierPlace (sym w) l))
+
       by-walk : Compared (walk g m) (walk g n) → Earlier g m n ⊎ Earlier g n m ⊎ (m ≡ n)
       by-walk (lower l) = inl (earlierWalk l)
       by-walk (same e) = by-place e (compared (placeOf m) (placeOf n))
@@ -112,13 +131,14 @@ module _ (g : List ℕ) where
       → ((n : Refusal) → v ≡ Refused n → First g Case n) → GoesBy g Case v
   goes-by Case v none first =
       record {
-          good = (none, back v first refl);
-          refused = λ n. (first n, λ f. same-refusal v none first refl n f)
+        good = (none, back v first refl);
+        refused = λ n. (first n, λ f. same-refusal v none first refl n f);
       }
     where
       back : (w : Verdict) → ((n : Refusal) → w ≡ Refused n → First g Case n) → v ≡ w → ((n : Refusal) → ¬ Case n) → v ≡ Good
       back Good f e h = e
       back (Refused n) f e h = absurd (h n (f n refl .applies))
+
       same-refusal : (w : Verdict) → (w ≡ Good → (n : Refusal) → ¬ Case n) → ((n : Refusal) → w ≡ Refused n → First g Case n) → v ≡ w
           → (n : Refusal) → First g Case n → v ≡ Refused n
       same-refusal Good h f e n q = absurd (h refl n (q .applies))
@@ -140,16 +160,16 @@ module _ (g : List ℕ) where
     first-left : (n : Refusal) → First g A n → First g Both n
     first-left n f =
         record {
-            applies = left n (f .applies);
-            noEarlier = λ m c e.
-                ⊎-elim (λ a. f .noEarlier m a e) (λ b. later-walk m n (later n m (f .applies) b) e) (either m c)
+          applies = left n (f .applies);
+          noEarlier = λ m c e.
+              ⊎-elim (λ a. f .noEarlier m a e) (λ b. later-walk m n (later n m (f .applies) b) e) (either m c);
         }
 
     first-right : ((m : Refusal) → ¬ A m) → (n : Refusal) → First g B n → First g Both n
     first-right none n f =
         record {
-            applies = right n (f .applies);
-            noEarlier = λ m c e. ⊎-elim (λ a. none m a) (λ b. f .noEarlier m b e) (either m c)
+          applies = right n (f .applies);
+          noEarlier = λ m c e. ⊎-elim (λ a. none m a) (λ b. f .noEarlier m b e) (either m c);
         }
 
     pub goes-then : (v w : Verdict) → GoesBy g A v → (v ≡ Good → GoesBy g B w) → GoesBy g Both (v then w)

@@ -101,8 +101,8 @@ module _ (Case : Refusal → Type 1) (key : Refusal → ℕ) where
   passed-each (suc n) f k i l h p =
       ⊎-elim (λ s. passed-each n f k i s h (passed-first (each n f) (f n) k p))
       (λ e.
-          subst (λ (j : ℕ). Passed (f j) k) (sym e)
-          (passed-second (each n f) (f n) k (ends-each n f (suc k) (λ j s. h j (omega arith))) p)) (below-suc i n l)
+      subst (λ (j : ℕ). Passed (f j) k) (sym e)
+      (passed-second (each n f) (f n) k (ends-each n f (suc k) (λ j s. h j (omega arith))) p)) (below-suc i n l)
 
   -- where each case's test is among the tests up to its key, the verdict goes by the cases
   pub by-keys : (g : List ℕ) (v : Verdict) (end : ℕ) → Within v end → ((m : Refusal) → Case m → Passed v (key m) → ⊥)
@@ -110,12 +110,12 @@ module _ (Case : Refusal → Type 1) (key : Refusal → ℕ) where
   by-keys g v end w tests order =
       goes-by g Case v (λ e n c. tests n c (passed-good v (key n) e))
       (λ n e.
-          record {
-              applies = w .is n e;
-              noEarlier = λ m c l.
-                  tests m c
-                  (record {
-                      after = λ q i.
-                          subst (λ (r : Refusal). key m < key r) (same-refused n q (sym e ∙ i)) (order m n c (w .is n e) l)
-                  })
-          })
+      record {
+        applies = w .is n e;
+        noEarlier = λ m c l.
+            tests m c
+            (record {
+              after = λ q i.
+                  subst (λ (r : Refusal). key m < key r) (same-refused n q (sym e ∙ i)) (order m n c (w .is n e) l);
+            });
+      })

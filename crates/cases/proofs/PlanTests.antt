@@ -35,13 +35,36 @@ use Rattle.sequences.specs.Paper.{LeftOut}
 use Rattle.sequences.proofs.PaperSequence.{none-left-out}
 use Rattle.plans.specs.declared.Planned as P
 use Rattle.plans.specs.Answer.{
-    Outcome, untouched, circularIdp, unordered, accepted as accepts, room, stuckIn, idpPaths, edpPaths, afterEdp, afterIdp, afterRoom,
-    afterReading, outcome, answerOf
+  Outcome,
+  untouched,
+  circularIdp,
+  unordered,
+  accepted as accepts,
+  room,
+  stuckIn,
+  idpPaths,
+  edpPaths,
+  afterEdp,
+  afterIdp,
+  afterRoom,
+  afterReading,
+  outcome,
+  answerOf,
 }
 use Rattle.plans.proofs.Answers.{setsFor, idpRule, idpOccurrence, idpCycle, edpRule, edpOccurrence, edpCycle, no-idp-cycle, no-edp-cycle}
 use Rattle.plans.proofs.Ordered.{CycleFree, never-stuck, free-ordered}
 use Rattle.cases.specs.First.{
-    roomWalk, idpWalk, readyWalk, walk, Earlier, earlierWalk, earlierPlace, lowerOccurrence, lowerNumber, First, GoesBy
+  roomWalk,
+  idpWalk,
+  readyWalk,
+  walk,
+  Earlier,
+  earlierWalk,
+  earlierPlace,
+  lowerOccurrence,
+  lowerNumber,
+  First,
+  GoesBy,
 }
 use Rattle.cases.specs.PlanningCases.{PlanningCase, PlanCase, inTable, inPlanning}
 use Rattle.cases.specs.PlanningCases as case
@@ -171,8 +194,8 @@ module _ (g : List ℕ) (rowsLength planLength : ℕ) where
         cycle-found g (edpPaths g (idsOf g) (setsFor g)) (λ r o. OnCycle (EDP g (setNumber (setsFor g)) r) o)
         (λ r o c. edp-path-exact g good (setsFor g) r c o o)
         (λ r o c p.
-            let e = path-first p in
-            occurs-below g (accepted g good) r o c (edp-from g good (setsFor g) r c o (e .0) (e .1))) t
+        let e = path-first p in
+        occurs-below g (accepted g good) r o c (edp-from g good (setsFor g) r c o (e .0) (e .1))) t
 
     -- what is found once there is room
     after-edp : CycleFree g → afterEdp g (idsOf g) (setsFor g) ≡ accepts
@@ -187,29 +210,29 @@ module _ (g : List ℕ) (rowsLength planLength : ℕ) where
     found-cycles =
         ⊎-elim
         (λ t.
-            fault (idpCycle g)
-            (ap verdictOf (chosen (circular g (idpPaths g (idsOf g))) (circularIdp (idpCycle g)) (afterIdp g (idsOf g) (setsFor g)) t))
-            (first-idp (idpRule g) (idpOccurrence g) (idp-lowest t)))
+        fault (idpCycle g)
+        (ap verdictOf (chosen (circular g (idpPaths g (idsOf g))) (circularIdp (idpCycle g)) (afterIdp g (idsOf g) (setsFor g)) t))
+        (first-idp (idpRule g) (idpOccurrence g) (idp-lowest t)))
         (λ t.
-            let free : CircularIDP g → ⊥ = no-idp-cycle g good (T-false _ t) in
-            let past : afterRoom g (idsOf g) ≡ afterIdp g (idsOf g) (setsFor g) =
-                    passed-over (circular g (idpPaths g (idsOf g))) (circularIdp (idpCycle g)) (afterIdp g (idsOf g) (setsFor g)) t in
-            ⊎-elim
-            (λ u.
-                fault (edpCycle g)
-                (ap verdictOf
-                (past
-                ∙ chosen (circular g (edpPaths g (idsOf g) (setsFor g))) (unordered (edpCycle g)) (afterEdp g (idsOf g) (setsFor g)) u))
-                (first-edp free (edpRule g) (edpOccurrence g) (edp-lowest u)))
-            (λ u.
-                let ordered : CycleFree g = record { noIdpCycle = free; noEdpCycle = no-edp-cycle g good (T-false _ u) } in
-                nothing
-                (ap verdictOf
-                (past
-                ∙ (passed-over (circular g (edpPaths g (idsOf g) (setsFor g))) (unordered (edpCycle g)) (afterEdp g (idsOf g) (setsFor g)) u
-                ∙ after-edp ordered)))
-                (no-case ordered))
-            (tested (circular g (edpPaths g (idsOf g) (setsFor g)))))
+        let free : CircularIDP g → ⊥ = no-idp-cycle g good (T-false _ t) in
+        let past : afterRoom g (idsOf g) ≡ afterIdp g (idsOf g) (setsFor g) =
+        passed-over (circular g (idpPaths g (idsOf g))) (circularIdp (idpCycle g)) (afterIdp g (idsOf g) (setsFor g)) t in
+        ⊎-elim
+        (λ u.
+        fault (edpCycle g)
+        (ap verdictOf
+        (past
+        ∙ chosen (circular g (edpPaths g (idsOf g) (setsFor g))) (unordered (edpCycle g)) (afterEdp g (idsOf g) (setsFor g)) u))
+        (first-edp free (edpRule g) (edpOccurrence g) (edp-lowest u)))
+        (λ u.
+        let ordered : CycleFree g = record { noIdpCycle = free; noEdpCycle = no-edp-cycle g good (T-false _ u) } in
+        nothing
+        (ap verdictOf
+        (past
+        ∙ (passed-over (circular g (edpPaths g (idsOf g) (setsFor g))) (unordered (edpCycle g)) (afterEdp g (idsOf g) (setsFor g)) u
+        ∙ after-edp ordered)))
+        (no-case ordered))
+        (tested (circular g (edpPaths g (idsOf g) (setsFor g)))))
         (tested (circular g (idpPaths g (idsOf g))))
 
   -- 8 to 11 after a table that is read
@@ -268,9 +291,10 @@ module _ (g : List ℕ) (rowsLength planLength : ℕ) where
   -- and a plan exactly if none applies
   pub plan-accepted : (k : ℕ) → (answerOf g (outcome g rowsLength planLength) ≡ P.the-variants.Accepted k)
       ↔ ((k ≡ planWords (rules g)) × ((n : Refusal) → ¬ PlanCase g rowsLength planLength n))
-  plan-accepted k =
-      (λ e. let w = accepted-answer (outcome g rowsLength planLength) k .0 e in (w .0, plan-verdict .good .0 (w .1)),
-      λ w. accepted-answer (outcome g rowsLength planLength) k .1 (w .0, plan-verdict .good .1 (w .1)))
+  plan-accepted k = (
+    λ e. let w = accepted-answer (outcome g rowsLength planLength) k .0 e in (w .0, plan-verdict .good .0 (w .1)),
+    λ w. accepted-answer (outcome g rowsLength planLength) k .1 (w .0, plan-verdict .good .1 (w .1)),
+  )
 
   -- an outcome that refuses with n is the one of n's walk
   Settled : Outcome → Type 0
@@ -351,9 +375,10 @@ module _ (g : List ℕ) (rowsLength planLength : ℕ) where
 
   -- and to the end exactly if none applies
   pub plan-done : (outcome g rowsLength planLength ≡ accepts) ↔ ((n : Refusal) → ¬ PlanCase g rowsLength planLength n)
-  plan-done =
-      (λ e. plan-verdict .good .0 (ap verdictOf e ∙ accepted-good),
-      λ h. of-accepted (outcome g rowsLength planLength) (plan-verdict .good .1 h))
+  plan-done = (
+    λ e. plan-verdict .good .0 (ap verdictOf e ∙ accepted-good),
+    λ h. of-accepted (outcome g rowsLength planLength) (plan-verdict .good .1 h),
+  )
 
   -- 11 never answers
   remaining : (n : Refusal) → PlanCase g rowsLength planLength n → numberOf n ≡ 11
@@ -369,11 +394,11 @@ module _ (g : List ℕ) (rowsLength planLength : ℕ) where
   eleven-never r f =
       let w = remaining (Stuck r) (f .applies) refl in
       let good : readTable g ≡ Good =
-              table-verdict g .good .1 (λ n c. f .noEarlier n (inTable c) (earlierWalk (omega (arith, table-walk g n c)))) in
+      table-verdict g .good .1 (λ n c. f .noEarlier n (inTable c) (earlierWalk (omega (arith, table-walk g n c)))) in
       let ordered : IsOrdered g =
-              record {
-                  set = w .0;
-                  areSets = w .1;
-                  noCycle = λ q o c p. f .noEarlier (CircularEdp q o) (inPlanning (case.edpCycle (w .0) (w .1) q o c p)) (earlierWalk (omega arith))
-              } in
+      record {
+        set = w .0;
+        areSets = w .1;
+        noCycle = λ q o c p. f .noEarlier (CircularEdp q o) (inPlanning (case.edpCycle (w .0) (w .1) q o c p)) (earlierWalk (omega arith));
+      } in
       none-left-out g good ordered (w .0) (w .1) (w .2 .0) (w .2 .1) (w .2 .2)

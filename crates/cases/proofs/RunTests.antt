@@ -95,9 +95,10 @@ module _ (g rows plan t : List ℕ) (values : List ℤ) (budget : ℕ) where
   -- and is carried out exactly if none applies
   pub run-carried-out : ((n : Refusal) → ¬ (answer g rows plan t values budget ≡ R.the-variants.Refused n))
       ↔ ((n : Refusal) → ¬ RunCase g (length rows) (length plan) t (length values) n)
-  run-carried-out =
-      (λ h. run-verdict g (length rows) (length plan) t (length values) .good .0 (is-good _ (λ n e. h n (answer-verdict n .1 e))),
-      λ h n e. h n (run-refused n .0 e .applies))
+  run-carried-out = (
+    λ h. run-verdict g (length rows) (length plan) t (length values) .good .0 (is-good _ (λ n e. h n (answer-verdict n .1 e))),
+    λ h n e. h n (run-refused n .0 e .applies),
+  )
     where
       is-good : (v : Verdict) → ((n : Refusal) → ¬ (v ≡ Refused n)) → v ≡ Good
       is-good Good h = refl

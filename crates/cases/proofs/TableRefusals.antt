@@ -11,25 +11,87 @@ use lib.ListN.{length}
 use Rattle.basics.specs.Tests.{_and_, _or_, _implies_}
 use Rattle.basics.specs.Lists.{word}
 use Rattle.basics.proofs.TestLaws.{
-    and-intro, or-left, or-right, some-at, some-find, all-fails, implies-fails, eq-T, chosen, passed-over, tested, below-or-not
+  and-intro,
+  or-left,
+  or-right,
+  some-at,
+  some-find,
+  all-fails,
+  implies-fails,
+  eq-T,
+  chosen,
+  passed-over,
+  tested,
+  below-or-not,
 }
 use Rattle.refusals.specs.declared.Refusal.{Refusal}
 use Rattle.refusals.specs.declared.Refusal.the-variants.{
-    EndsEarly, OutOfRange, WrongClass, NoOccurrence, NotDefining, Undefined, LeftOver, TooShort, CircularIdp, CircularEdp, Stuck, TreeSize,
-    NoSuchRule, BadChild, RootNotStart, ChildDiffers, NotOneParent, ValuesTooShort
+  EndsEarly,
+  OutOfRange,
+  WrongClass,
+  NoOccurrence,
+  NotDefining,
+  Undefined,
+  LeftOver,
+  TooShort,
+  CircularIdp,
+  CircularEdp,
+  Stuck,
+  TreeSize,
+  NoSuchRule,
+  BadChild,
+  RootNotStart,
+  ChildDiffers,
+  NotOneParent,
+  ValuesTooShort,
 }
 use Rattle.refusals.specs.Numbers.{numberOf, placeOf}
 use Rattle.grammar.specs.declared.Verdict.{Verdict}
 use Rattle.grammar.specs.declared.Verdict.the-variants.{Good}
 use Rattle.grammar.specs.Limits.{mostSymbols, mostRules, mostAttributes, longestRight, mostFunctions, lastOperation, mostOccurrences}
 use Rattle.grammar.specs.Table.{
-    symbols, rules, start, symbolAt, kind, attributes, mask, nonterminal, argumentWords, isConstant, lengthAt, functionsAt,
-    functionAt, functionOf, functions, ruleAt, rightLength, symbolOf, arguments, target, operation, argument, occurrence, defining
+  symbols,
+  rules,
+  start,
+  symbolAt,
+  kind,
+  attributes,
+  mask,
+  nonterminal,
+  argumentWords,
+  isConstant,
+  lengthAt,
+  functionsAt,
+  functionAt,
+  functionOf,
+  functions,
+  ruleAt,
+  rightLength,
+  symbolOf,
+  arguments,
+  target,
+  operation,
+  argument,
+  occurrence,
+  defining,
 }
 use Rattle.grammar.specs.Verdicts.{_then_, unless, each}
 use Rattle.grammar.specs.Reading.{
-    present, ranged, header, symbolFault, startClass, leftFault, definedBelow, argumentFault, functionFault, bodyFault, complete,
-    ruleBefore, ruleFault, leftOver, readTable
+  present,
+  ranged,
+  header,
+  symbolFault,
+  startClass,
+  leftFault,
+  definedBelow,
+  argumentFault,
+  functionFault,
+  bodyFault,
+  complete,
+  ruleBefore,
+  ruleFault,
+  leftOver,
+  readTable,
 }
 use Rattle.grammar.proofs.VerdictLaws.{each-at}
 use Rattle.grammar.proofs.AcceptedTable.{ranged-passes, header-start, symbol-formed}
@@ -60,9 +122,9 @@ module _ (g : List ℕ) where
   at-word n w e =
       ⊎-elim (λ h. inSymbols (w ∙ chosen (ltb (placeOf n) (ruleAt g 0)) symbolWalk ruleWalk (lt→ltb _ _ h)) e h)
       (λ h.
-          inRules
-          (w ∙ passed-over (ltb (placeOf n) (ruleAt g 0)) symbolWalk ruleWalk (not-T (ltb (placeOf n) (ruleAt g 0)) (λ t. omega (arith, ltb→lt (placeOf n) (ruleAt g 0) t))))
-          e h)
+      inRules
+      (w ∙ passed-over (ltb (placeOf n) (ruleAt g 0)) symbolWalk ruleWalk (not-T (ltb (placeOf n) (ruleAt g 0)) (λ t. omega (arith, ltb→lt (placeOf n) (ruleAt g 0) t))))
+      e h)
       (below-or-not (placeOf n) (ruleAt g 0))
 
   pub turned : (n : Refusal) → numberOf n ≤ 7 → Turned g n
@@ -71,7 +133,7 @@ module _ (g : List ℕ) where
   turned (WrongClass p) h =
       ⊎-elim
       (λ t.
-          atStart (chosen (eqb p 2) startWalk (wordWalk g p) t) (chosen (eqb p 2) (2 * ruleAt g 0 - 1) (2 * p) t) (eqb→eq p 2 t))
+      atStart (chosen (eqb p 2) startWalk (wordWalk g p) t) (chosen (eqb p 2) (2 * ruleAt g 0 - 1) (2 * p) t) (eqb→eq p 2 t))
       (λ t. at-word (WrongClass p) (passed-over (eqb p 2) startWalk (wordWalk g p) t) (passed-over (eqb p 2) (2 * ruleAt g 0 - 1) (2 * p) t))
       (tested (eqb p 2))
   turned (NoOccurrence p) h = at-word (NoOccurrence p) refl refl
@@ -159,13 +221,13 @@ module _ (g : List ℕ) where
       in-then _ _ end
       (in-ranged 0 _ end (omega arith) (omega arith)
       (λ t. case.symbolCount (λ h.
-          T-not (leb 1 (symbols g) and leb (symbols g) mostSymbols) t
-          (and-intro _ _ (le→leb 1 (symbols g) (h .0)) (le→leb (symbols g) mostSymbols (h .1))))))
+      T-not (leb 1 (symbols g) and leb (symbols g) mostSymbols) t
+      (and-intro _ _ (le→leb 1 (symbols g) (h .0)) (le→leb (symbols g) mostSymbols (h .1))))))
       (in-then _ _ end
       (in-ranged 1 _ end (omega arith) (omega arith)
       (λ t. case.ruleCount (λ h.
-          T-not (leb 1 (rules g) and leb (rules g) mostRules) t
-          (and-intro _ _ (le→leb 1 (rules g) (h .0)) (le→leb (rules g) mostRules (h .1))))))
+      T-not (leb 1 (rules g) and leb (rules g) mostRules) t
+      (and-intro _ _ (le→leb 1 (rules g) (h .0)) (le→leb (rules g) mostRules (h .1))))))
       (in-ranged 2 _ end (omega arith) (omega arith)
       (λ t. case.startSymbol (λ h. T-not (ltb (start g) (symbols g)) t (lt→ltb (start g) (symbols g) h)))))
 
@@ -186,11 +248,11 @@ module _ (g : List ℕ) where
       (λ t. case.symbolMask x h (λ s. T-not (ltb (mask g x) (2 ^ attributes g x)) t (lt→ltb (mask g x) (2 ^ attributes g x) s))))
       (within-unless (TableCase g) (key g) (nonterminal g x or eqb (mask g x) 0) (WrongClass (symbolAt x + 2)) end
       (λ t.
-          case.terminalInherits x h
-          (terminal-kind x (leb→le (kind g x) 1 (ranged-passes g (symbolAt x) (leb (kind g x) 1) known))
-          (not-T (nonterminal g x)
-          (λ s. T-not (nonterminal g x or eqb (mask g x) 0) t (or-left (nonterminal g x) (eqb (mask g x) 0) s))))
-          (λ s. T-not (nonterminal g x or eqb (mask g x) 0) t (or-right (nonterminal g x) (eqb (mask g x) 0) (eq-T (mask g x) 0 s))))
+      case.terminalInherits x h
+      (terminal-kind x (leb→le (kind g x) 1 (ranged-passes g (symbolAt x) (leb (kind g x) 1) known))
+      (not-T (nonterminal g x)
+      (λ s. T-not (nonterminal g x or eqb (mask g x) 0) t (or-left (nonterminal g x) (eqb (mask g x) 0) s))))
+      (λ s. T-not (nonterminal g x or eqb (mask g x) 0) t (or-right (nonterminal g x) (eqb (mask g x) 0) (eq-T (mask g x) 0 s))))
       (omega (arith, class-key (symbolAt x + 2) (omega arith))))))
 
   -- the start's class, where each kind is in its range
@@ -202,11 +264,11 @@ module _ (g : List ℕ) where
   in-start end kinds inside l =
       within-unless (TableCase g) (key g) (nonterminal g (start g) and eqb (mask g (start g)) 0) (WrongClass 2) end
       (λ t.
-          ⊎-elim
-          (λ s. case.startInherits (λ m.
-              T-not (nonterminal g (start g) and eqb (mask g (start g)) 0) t
-              (and-intro (nonterminal g (start g)) (eqb (mask g (start g)) 0) s (eq-T (mask g (start g)) 0 m))))
-          (λ s. case.startTerminal (terminal-kind (start g) (kinds (start g) inside) s)) (tested (nonterminal g (start g))))
+      ⊎-elim
+      (λ s. case.startInherits (λ m.
+      T-not (nonterminal g (start g) and eqb (mask g (start g)) 0) t
+      (and-intro (nonterminal g (start g)) (eqb (mask g (start g)) 0) s (eq-T (mask g (start g)) 0 m))))
+      (λ s. case.startTerminal (terminal-kind (start g) (kinds (start g) inside) s)) (tested (nonterminal g (start g))))
       (omega (arith, first-rule))
 
   -- the left symbol of a rule
@@ -218,12 +280,12 @@ module _ (g : List ℕ) where
       (in-ranged (ruleAt g r) _ end (omega (arith, rule-inside r h, rule-step g r)) (omega arith)
       (λ t. case.leftSymbol r h (λ s. T-not (ltb (word g (ruleAt g r)) (symbols g)) t (lt→ltb (word g (ruleAt g r)) (symbols g) s))))
       (λ inside.
-          within-unless (TableCase g) (key g) (nonterminal g (word g (ruleAt g r))) (WrongClass (ruleAt g r)) end
-          (λ t.
-              case.terminalLeft r h
-              (terminal-kind (word g (ruleAt g r))
-              (kinds (word g (ruleAt g r)) (ltb→lt (word g (ruleAt g r)) (symbols g) (ranged-passes g (ruleAt g r) _ inside))) t))
-          (omega (arith, class-key (ruleAt g r) (omega arith))))
+      within-unless (TableCase g) (key g) (nonterminal g (word g (ruleAt g r))) (WrongClass (ruleAt g r)) end
+      (λ t.
+      case.terminalLeft r h
+      (terminal-kind (word g (ruleAt g r))
+      (kinds (word g (ruleAt g r)) (ltb→lt (word g (ruleAt g r)) (symbols g) (ranged-passes g (ruleAt g r) _ inside))) t))
+      (omega (arith, class-key (ruleAt g r) (omega arith))))
 
   -- one of the first k functions has this target, or none
   none-below : (r k o : ℕ) → T (not (definedBelow g r k o)) → (j : ℕ) → j < k → ¬ (target g r j ≡ o)
@@ -256,15 +318,15 @@ module _ (g : List ℕ) where
       (within-unless (TableCase g) (key g) (isConstant (operation g r k) or occurrence g r (argument g r k j))
       (NoOccurrence (functionOf g r k + 2 + j)) end
       (λ t.
-          let c : T (not (isConstant (operation g r k))) =
-                  not-T (isConstant (operation g r k)) (λ i.
-                  T-not (isConstant (operation g r k) or occurrence g r (argument g r k j)) t
-                  (or-left (isConstant (operation g r k)) (occurrence g r (argument g r k j)) i)) in
-          case.argumentForeign r k j h
-          (subst⁻¹ (λ (m : ℕ). j < m) (passed-over (isConstant (operation g r k)) 0 (argumentWords (operation g r k)) c) s)
-          (λ i.
-              T-not (isConstant (operation g r k) or occurrence g r (argument g r k j)) t
-              (or-right (isConstant (operation g r k)) (occurrence g r (argument g r k j)) i)))
+      let c : T (not (isConstant (operation g r k))) =
+      not-T (isConstant (operation g r k)) (λ i.
+      T-not (isConstant (operation g r k) or occurrence g r (argument g r k j)) t
+      (or-left (isConstant (operation g r k)) (occurrence g r (argument g r k j)) i)) in
+      case.argumentForeign r k j h
+      (subst⁻¹ (λ (m : ℕ). j < m) (passed-over (isConstant (operation g r k)) 0 (argumentWords (operation g r k)) c) s)
+      (λ i.
+      T-not (isConstant (operation g r k) or occurrence g r (argument g r k j)) t
+      (or-right (isConstant (operation g r k)) (occurrence g r (argument g r k j)) i)))
       (omega arith))
 
   -- the target of an earlier function
@@ -299,7 +361,7 @@ module _ (g : List ℕ) where
       wrong-target r k h t =
           ⊎-elim (λ b. defined-before r k h b)
           (λ b. case.targetNotDefining r k h (λ d.
-              T-not (defining g r (target g r k) and not (definedBelow g r k (target g r k))) t (and-intro _ _ d b)))
+          T-not (defining g r (target g r k) and not (definedBelow g r k (target g r k))) t (and-intro _ _ d b)))
           (tested (definedBelow g r k (target g r k)))
 
   -- what follows the left symbol of a rule
@@ -311,21 +373,21 @@ module _ (g : List ℕ) where
       in-then _ _ end
       (in-ranged (ruleAt g r + 1) _ end (omega arith) (omega arith)
       (λ t. case.rightCount r h (λ q.
-          T-not (leb (lengthAt g (ruleAt g r)) longestRight) t (le→leb (lengthAt g (ruleAt g r)) longestRight q))))
+      T-not (leb (lengthAt g (ruleAt g r)) longestRight) t (le→leb (lengthAt g (ruleAt g r)) longestRight q))))
       (in-then _ _ end
       (within-each (TableCase g) (key g) (lengthAt g (ruleAt g r))
       (λ i. ranged g (ruleAt g r + 2 + i) (ltb (word g (ruleAt g r + 2 + i)) (symbols g))) end
       (λ i m.
-          in-ranged (ruleAt g r + 2 + i) _ end (omega arith) (omega arith)
-          (λ t. case.rightSymbol r i h m (λ q.
-              T-not (ltb (word g (ruleAt g r + 2 + i)) (symbols g)) t (lt→ltb (word g (ruleAt g r + 2 + i)) (symbols g) q)))))
+      in-ranged (ruleAt g r + 2 + i) _ end (omega arith) (omega arith)
+      (λ t. case.rightSymbol r i h m (λ q.
+      T-not (ltb (word g (ruleAt g r + 2 + i)) (symbols g)) t (lt→ltb (word g (ruleAt g r + 2 + i)) (symbols g) q)))))
       (in-then _ _ end
       (in-ranged (ruleAt g r + 2 + lengthAt g (ruleAt g r)) _ end (omega arith) (omega arith)
       (λ t. case.functionCount r h (λ q.
-          T-not (leb (functionsAt g (ruleAt g r)) mostFunctions) t (le→leb (functionsAt g (ruleAt g r)) mostFunctions q))))
+      T-not (leb (functionsAt g (ruleAt g r)) mostFunctions) t (le→leb (functionsAt g (ruleAt g r)) mostFunctions q))))
       (within-each (TableCase g) (key g) (functions g r) (λ k. functionFault g r k) end
       (λ k m.
-          in-function r k end (record { ruleInside = h; functionInside = m }) (omega (arith, function-inside r k m))))))
+      in-function r k end (record { ruleInside = h; functionInside = m }) (omega (arith, function-inside r k m))))))
 
   -- a rule
   in-rule : (r end : ℕ) → Kinds → r < rules g → 16 * ruleAt g (suc r) ≤ end → In (ruleFault g r) end
@@ -361,7 +423,7 @@ module _ (g : List ℕ) where
       let a = after-header (rules g) in
       let f = first-rule in
       within-then (TableCase g) (key g) _ _ end (in-header end (omega arith)) (λ h.
-          within-then (TableCase g) (key g) _ _ end (in-symbols end (omega arith)) (λ s.
-              in-then _ _ end (in-start end (good-kinds s) (header-start g h) (omega arith))
-              (in-then _ _ end (in-rules end (good-kinds s) (omega arith))
-              (in-then _ _ end (in-before (rules g) end (omega arith) (omega arith)) (in-over end (omega arith))))))
+      within-then (TableCase g) (key g) _ _ end (in-symbols end (omega arith)) (λ s.
+      in-then _ _ end (in-start end (good-kinds s) (header-start g h) (omega arith))
+      (in-then _ _ end (in-rules end (good-kinds s) (omega arith))
+      (in-then _ _ end (in-before (rules g) end (omega arith) (omega arith)) (in-over end (omega arith))))))

@@ -11,7 +11,18 @@ use lib.ListN.{length}
 use Rattle.basics.specs.Tests.{_and_, _or_, _implies_}
 use Rattle.basics.specs.Lists.{word}
 use Rattle.basics.proofs.TestLaws.{
-    and-left, and-right, or-cases, some-at, some-find, all-at, implies-use, eq-T, below-or-not, passed-over, tested, chosen
+  and-left,
+  and-right,
+  or-cases,
+  some-at,
+  some-find,
+  all-at,
+  implies-use,
+  eq-T,
+  below-or-not,
+  passed-over,
+  tested,
+  chosen,
 }
 use Rattle.refusals.specs.declared.Refusal.{Refusal}
 use Rattle.refusals.specs.declared.Refusal.the-variants.{EndsEarly, OutOfRange, WrongClass, NoOccurrence, NotDefining, Undefined, LeftOver}
@@ -19,13 +30,47 @@ use Rattle.refusals.specs.Numbers.{numberOf, secondOf}
 use Rattle.grammar.specs.declared.Verdict.{Verdict}
 use Rattle.grammar.specs.Limits.{mostSymbols, mostRules, mostAttributes, longestRight, mostFunctions, lastOperation, mostOccurrences}
 use Rattle.grammar.specs.Table.{
-    symbols, rules, start, symbolAt, kind, attributes, mask, nonterminal, argumentWords, isConstant, lengthAt, functionsAt,
-    functionOf, functions, ruleAt, rightLength, symbolOf, arguments, target, operation, argument, occurrence, defining
+  symbols,
+  rules,
+  start,
+  symbolAt,
+  kind,
+  attributes,
+  mask,
+  nonterminal,
+  argumentWords,
+  isConstant,
+  lengthAt,
+  functionsAt,
+  functionOf,
+  functions,
+  ruleAt,
+  rightLength,
+  symbolOf,
+  arguments,
+  target,
+  operation,
+  argument,
+  occurrence,
+  defining,
 }
 use Rattle.grammar.specs.Verdicts.{_then_, unless, each}
 use Rattle.grammar.specs.Reading.{
-    present, ranged, header, symbolFault, startClass, leftFault, definedBelow, argumentFault, functionFault, bodyFault, complete,
-    ruleBefore, ruleFault, leftOver, readTable
+  present,
+  ranged,
+  header,
+  symbolFault,
+  startClass,
+  leftFault,
+  definedBelow,
+  argumentFault,
+  functionFault,
+  bodyFault,
+  complete,
+  ruleBefore,
+  ruleFault,
+  leftOver,
+  readTable,
 }
 use Rattle.grammar.proofs.AcceptedTable.{defining-occurs}
 use Rattle.grammar.proofs.OccurrenceLaws.{occurs-inside}
@@ -35,11 +80,40 @@ use Rattle.cases.proofs.FirstLaws.{later-walk}
 use Rattle.cases.specs.TableCases.{HasFunction, TableCase}
 use Rattle.cases.specs.TableCases as case
 use Rattle.cases.proofs.PassedLaws.{
-    Ends, ends-then, ends-unless, ends-each, Passed, passed-down, passed-first, passed-second, passed-unless, passed-each, by-keys
+  Ends,
+  ends-then,
+  ends-unless,
+  ends-each,
+  Passed,
+  passed-down,
+  passed-first,
+  passed-second,
+  passed-unless,
+  passed-each,
+  by-keys,
 }
 use Rattle.cases.proofs.TableRefusals.{
-    Turned, inSymbols, atStart, inRules, turned, key, first-rule, rule-end, functions-start, function-next, after-header, rule-inside, function-after, class-key, in-header,
-    in-symbol, in-before, in-function, in-body, in-symbols, in-table
+  Turned,
+  inSymbols,
+  atStart,
+  inRules,
+  turned,
+  key,
+  first-rule,
+  rule-end,
+  functions-start,
+  function-next,
+  after-header,
+  rule-inside,
+  function-after,
+  class-key,
+  in-header,
+  in-symbol,
+  in-before,
+  in-function,
+  in-body,
+  in-symbols,
+  in-table,
 }
 
 -- a number from f 0 up to f n lies in one of the n steps
@@ -201,8 +275,8 @@ module _ (g : List ℕ) where
       let a = function-after g r f in
       passed-each (TableCase g) (key g) (functions g r) (λ f. functionFault g r f) k f (h .functionInside)
       (λ j s.
-          in-function g r j (suc k) (record { ruleInside = h .ruleInside; functionInside = omega (arith, h .functionInside) })
-          (omega (arith, functions-rise g (ruleAt g r) (suc j) f s)) .ends)
+      in-function g r j (suc k) (record { ruleInside = h .ruleInside; functionInside = omega (arith, h .functionInside) })
+      (omega (arith, functions-rise g (ruleAt g r) (suc j) f s)) .ends)
       (past-second _ _ k (ends-ranged (ruleAt g r + 2 + lengthAt g (ruleAt g r)) _ (suc k) (omega arith)) (body-rest r k (omega arith) p))
 
   -- The parts of a function.
@@ -322,9 +396,9 @@ module _ (g : List ℕ) where
   table-before r k h l p =
       ⊎-elim (λ s. rule-before (suc r) k s (omega arith) (table-rule (suc r) k s (omega arith) p))
       (λ s.
-          let e : rules g ≡ suc r = omega arith in
-          subst (λ (n : ℕ). Past (ruleBefore g n) k) e
-          (past-first _ _ k (table-last k (omega (arith, ap (λ (n : ℕ). ruleAt g n) e)) p)))
+      let e : rules g ≡ suc r = omega arith in
+      subst (λ (n : ℕ). Past (ruleBefore g n) k) e
+      (past-first _ _ k (table-last k (omega (arith, ap (λ (n : ℕ). ruleAt g n) e)) p)))
       (below-or-not (suc r) (rules g))
 
   -- 1: every word of the announced table is looked for, function by function and rule by rule
@@ -335,15 +409,21 @@ module _ (g : List ℕ) where
       let s = table-function r f (16 * p + 1) h (omega arith) q in
       ⊎-elim (λ t. omega (arith, present-there (functionOf g r f) (16 * p + 1) (omega arith) (function-target r f (16 * p + 1) s)))
       (λ t.
-          ⊎-elim
-          (λ u.
-              omega (arith, ranged-there (functionOf g r f + 1) _ (16 * p + 1) (omega arith)
-              (function-operation r f (16 * p + 1) (omega arith) s)))
-          (λ u.
-              let j : ℕ = p - (functionOf g r f + 2) in
-              omega (arith, argument-there r f j (16 * p + 1) (omega arith)
-              (function-argument r f j (16 * p + 1) (omega arith) (omega arith) s)))
-          (below-or-not p (functionOf g r f + 2)))
+      ⊎-elim
+      (λ u.
+      omega (
+        arith,
+        ranged-there (functionOf g r f + 1) _ (16 * p + 1) (omega arith)
+            (function-operation r f (16 * p + 1) (omega arith) s),
+      ))
+      (λ u.
+      let j : ℕ = p - (functionOf g r f + 2) in
+      omega (
+        arith,
+        argument-there r f j (16 * p + 1) (omega arith)
+            (function-argument r f j (16 * p + 1) (omega arith) (omega arith) s),
+      ))
+      (below-or-not p (functionOf g r f + 2)))
       (below-or-not p (functionOf g r f + 1))
 
   rule-words : (r p : ℕ) → r < rules g → ruleAt g r ≤ p → p < ruleAt g (suc r) → Past (readTable g) (16 * p + 1) → p < length g
@@ -351,32 +431,42 @@ module _ (g : List ℕ) where
   rule-words r p h l m q =
       ⊎-elim
       (λ t.
-          omega (arith, ranged-there (ruleAt g r) _ (16 * p + 1) (omega arith)
-          (left-symbol r (16 * p + 1) (rule-left r (16 * p + 1) (table-rule r (16 * p + 1) h (omega arith) q)))))
+      omega (
+        arith,
+        ranged-there (ruleAt g r) _ (16 * p + 1) (omega arith)
+            (left-symbol r (16 * p + 1) (rule-left r (16 * p + 1) (table-rule r (16 * p + 1) h (omega arith) q))),
+      ))
       (λ t. body (table-body r (16 * p + 1) h (omega arith) q) t)
       (below-or-not p (ruleAt g r + 1))
     where
       within : Step (functionOf g r) (functions g r) p → p < length g
       within (step f s a b) = function-words r f p (record { ruleInside = h; functionInside = s }) a b q
+
       body : Past (bodyFault g r) (16 * p + 1) → ruleAt g r + 1 ≤ p → p < length g
       body s t =
           ⊎-elim (λ u. omega (arith, ranged-there (ruleAt g r + 1) _ (16 * p + 1) (omega arith) (body-length r (16 * p + 1) s)))
           (λ u.
-              ⊎-elim
-              (λ v.
-                  let i : ℕ = p - (ruleAt g r + 2) in
-                  omega (arith, ranged-there (ruleAt g r + 2 + i) _ (16 * p + 1) (omega arith)
-                  (body-symbol r i (16 * p + 1) (omega arith) (omega arith) s)))
-              (λ v.
-                  ⊎-elim
-                  (λ w.
-                      omega (arith, ranged-there (ruleAt g r + 2 + lengthAt g (ruleAt g r)) _ (16 * p + 1) (omega arith)
-                      (body-count r (16 * p + 1) (omega arith) s)))
-                  (λ w.
-                      within
-                      (find-step (functionOf g r) (functions g r) p (omega (arith, functions-start g r)) (omega (arith, rule-end g r))))
-                  (below-or-not p (ruleAt g r + 3 + rightLength g r)))
-              (below-or-not p (ruleAt g r + 2 + rightLength g r)))
+          ⊎-elim
+          (λ v.
+          let i : ℕ = p - (ruleAt g r + 2) in
+          omega (
+            arith,
+            ranged-there (ruleAt g r + 2 + i) _ (16 * p + 1) (omega arith)
+                (body-symbol r i (16 * p + 1) (omega arith) (omega arith) s),
+          ))
+          (λ v.
+          ⊎-elim
+          (λ w.
+          omega (
+            arith,
+            ranged-there (ruleAt g r + 2 + lengthAt g (ruleAt g r)) _ (16 * p + 1) (omega arith)
+                (body-count r (16 * p + 1) (omega arith) s),
+          ))
+          (λ w.
+          within
+          (find-step (functionOf g r) (functions g r) p (omega (arith, functions-start g r)) (omega (arith, rule-end g r))))
+          (below-or-not p (ruleAt g r + 3 + rightLength g r)))
+          (below-or-not p (ruleAt g r + 2 + rightLength g r)))
           (below-or-not p (ruleAt g r + 2))
 
   word-there : (p : ℕ) → p < ruleAt g (rules g) → Past (readTable g) (16 * p + 1) → p < length g
@@ -385,22 +475,33 @@ module _ (g : List ℕ) where
     where
       within : Step (λ r. ruleAt g r) (rules g) p → p < length g
       within (step r s a b) = rule-words r p s a b q
+
       in-head : p < 3 → p < length g
       in-head l =
           ⊎-elim
           (λ s.
-              omega (arith, ranged-there 0 _ (16 * p + 1) (omega arith)
-              (header-symbols (16 * p + 1) (table-header (16 * p + 1) q))))
+          omega (
+            arith,
+            ranged-there 0 _ (16 * p + 1) (omega arith)
+                (header-symbols (16 * p + 1) (table-header (16 * p + 1) q)),
+          ))
           (λ s.
-              ⊎-elim
-              (λ t.
-                  omega (arith, ranged-there 1 _ (16 * p + 1) (omega arith)
-                  (header-rules (16 * p + 1) (omega arith) (table-header (16 * p + 1) q))))
-              (λ t.
-                  omega (arith, ranged-there 2 _ (16 * p + 1) (omega arith)
-                  (header-start (16 * p + 1) (omega arith) (table-header (16 * p + 1) q))))
-              (below-or-not p 2))
+          ⊎-elim
+          (λ t.
+          omega (
+            arith,
+            ranged-there 1 _ (16 * p + 1) (omega arith)
+                (header-rules (16 * p + 1) (omega arith) (table-header (16 * p + 1) q)),
+          ))
+          (λ t.
+          omega (
+            arith,
+            ranged-there 2 _ (16 * p + 1) (omega arith)
+                (header-start (16 * p + 1) (omega arith) (table-header (16 * p + 1) q)),
+          ))
+          (below-or-not p 2))
           (below-or-not p 1)
+
       in-symbols-words : 3 ≤ p → p < ruleAt g 0 → p < length g
       in-symbols-words l m =
           let f = first-rule g in
@@ -409,15 +510,22 @@ module _ (g : List ℕ) where
           let s = table-symbol x (16 * p + 1) inside (omega arith) q in
           ⊎-elim (λ t. omega (arith, ranged-there (symbolAt x) _ (16 * p + 1) (omega arith) (symbol-kind x (16 * p + 1) s)))
           (λ t.
-              ⊎-elim
-              (λ u.
-                  omega (arith, ranged-there (symbolAt x + 1) _ (16 * p + 1) (omega arith)
-                  (symbol-count x (16 * p + 1) (omega arith) s)))
-              (λ u.
-                  omega (arith, ranged-there (symbolAt x + 2) _ (16 * p + 1) (omega arith)
-                  (past-first _ _ (16 * p + 1) (symbol-last x (16 * p + 1) (omega arith) s))))
-              (below-or-not p (symbolAt x + 2)))
+          ⊎-elim
+          (λ u.
+          omega (
+            arith,
+            ranged-there (symbolAt x + 1) _ (16 * p + 1) (omega arith)
+                (symbol-count x (16 * p + 1) (omega arith) s),
+          ))
+          (λ u.
+          omega (
+            arith,
+            ranged-there (symbolAt x + 2) _ (16 * p + 1) (omega arith)
+                (past-first _ _ (16 * p + 1) (symbol-last x (16 * p + 1) (omega arith) s)),
+          ))
+          (below-or-not p (symbolAt x + 2)))
           (below-or-not p (symbolAt x + 1))
+
       in-rules-words : ruleAt g 0 ≤ p → p < length g
       in-rules-words l = within (find-step (λ r. ruleAt g r) (rules g) p l h)
 
@@ -468,7 +576,7 @@ module _ (g : List ℕ) where
       go (inr c) =
           let k : ℕ = key g (NoOccurrence (functionOf g r f + 2 + j)) in
           let w : j < argumentWords (operation g r f) =
-                  subst (λ (m : ℕ). j < m) (passed-over (isConstant (operation g r f)) 0 (argumentWords (operation g r f)) c) l in
+          subst (λ (m : ℕ). j < m) (passed-over (isConstant (operation g r f)) 0 (argumentWords (operation g r f)) c) l in
           ⊎-elim (λ s. absurd (T-not (isConstant (operation g r f)) c s)) (λ s. s)
           (or-cases (isConstant (operation g r f)) (occurrence g r (argument g r f j))
           (argument-occurs r f j k (omega arith) (function-argument r f j k w (omega arith) (table-function r f k h (omega arith) q))))
@@ -486,11 +594,11 @@ module _ (g : List ℕ) where
   defined-passed r o h d q =
       let k : ℕ = key g (Undefined (ruleAt g (suc r))) in
       let fits : o < mostOccurrences =
-              omega (arith, occurs-inside g r o (defining-occurs g r o d), length-passed r k h (omega (arith, rule-step g r)) q) in
+      omega (arith, occurs-inside g r o (defining-occurs g r o d), length-passed r k h (omega (arith, rule-step g r)) q) in
       let w = some-find (functions g r) (λ k. eqb (target g r k) o)
-              (implies-use (defining g r o) (definedBelow g r (functions g r) o)
-              (all-at mostOccurrences (λ o. defining g r o implies definedBelow g r (functions g r) o)
-              (past-unless (complete g r) (Undefined (ruleAt g (suc r))) k (omega arith) (table-before r k h (omega arith) q)) o fits) d) in
+      (implies-use (defining g r o) (definedBelow g r (functions g r) o)
+      (all-at mostOccurrences (λ o. defining g r o implies definedBelow g r (functions g r) o)
+      (past-unless (complete g r) (Undefined (ruleAt g (suc r))) k (omega arith) (table-before r k h (omega arith) q)) o fits) d) in
       (w .0, w .1, eqb→eq (target g r (w .0)) o (w .2))
 
   over-passed : Past (readTable g) (key g (LeftOver (ruleAt g (rules g)))) → length g ≤ ruleAt g (rules g)
@@ -603,6 +711,7 @@ module _ (g : List ℕ) where
     where
       small : (numberOf m ≤ 7) × (secondOf n ≡ 0)
       small = (table-number m c .0, table-number n d .1)
+
       go : Turned g m → Turned g n → Earlier g m n → key g m < key g n
       go (inSymbols w e h) (inSymbols v f l) (earlierPlace a b) = omega (arith, small)
       go (inSymbols w e h) (inSymbols v f l) (earlierWalk a) = absurd (omega arith)

@@ -14,7 +14,13 @@ use Rattle.basics.proofs.CountingLaws.{count-yes, count-no, count-zero, count-u
 use Rattle.basics.proofs.ListLaws.{block-inside}
 use Rattle.refusals.specs.declared.Refusal.{Refusal}
 use Rattle.refusals.specs.declared.Refusal.the-variants.{
-    TreeSize, NoSuchRule, BadChild, RootNotStart, ChildDiffers, NotOneParent, ValuesTooShort
+  TreeSize,
+  NoSuchRule,
+  BadChild,
+  RootNotStart,
+  ChildDiffers,
+  NotOneParent,
+  ValuesTooShort,
 }
 use Rattle.refusals.specs.Numbers.{numberOf, placeOf, secondOf}
 use Rattle.grammar.specs.declared.Verdict.{Verdict}
@@ -25,7 +31,16 @@ use Rattle.grammar.specs.WellFormed.{SymbolFormed, RuleFormed, WellFormed}
 use Rattle.grammar.proofs.VerdictLaws.{then-first, unless-passes, each-at}
 use Rattle.trees.specs.Tree.{mostNodes, terminalMark, nodes, ruleOf, appliesRule, child, usedSlots, symbolAtNode, valueWords}
 use Rattle.trees.specs.Checking.{
-    sizeFits, knownWord, slotFits, slotsFit, nodeFault, rootIsStart, childrenFit, namesNode, onceChild, checkTree
+  sizeFits,
+  knownWord,
+  slotFits,
+  slotsFit,
+  nodeFault,
+  rootIsStart,
+  childrenFit,
+  namesNode,
+  onceChild,
+  checkTree,
 }
 use Rattle.trees.specs.Formed.{ChildOf}
 use Rattle.trees.proofs.AcceptedTree.{used-slots, used-child, slot-names, names-slot}
@@ -33,8 +48,19 @@ use Rattle.cases.specs.First.{walk, Earlier, earlierWalk, earlierPlace, 
 use Rattle.cases.specs.TreeCases.{NamesTerminal, TreeCase}
 use Rattle.cases.specs.TreeCases as case
 use Rattle.cases.proofs.PassedLaws.{
-    ends-unless, Within, within-then, within-unless, within-each, Passed, passed-down, passed-first, passed-all, passed-second,
-    passed-unless, passed-each, by-keys
+  ends-unless,
+  Within,
+  within-then,
+  within-unless,
+  within-each,
+  Passed,
+  passed-down,
+  passed-first,
+  passed-all,
+  passed-second,
+  passed-unless,
+  passed-each,
+  by-keys,
 }
 
 -- two that pass, where two or more count
@@ -43,8 +69,8 @@ count-pair f zero h = absurd (omega (arith, count-zero f))
 count-pair f (suc n) h =
     ⊎-elim (λ t. let w = count-find f n (omega (arith, count-yes f n t)) in (w .0, n, w .1, omega arith, w .2, t))
     (λ t.
-        let w = count-pair f n (omega (arith, count-no f n (λ s. T-not (f n) t s))) in
-        (w .0, w .1, w .2, omega (arith, w .3), w .4, w .5))
+    let w = count-pair f n (omega (arith, count-no f n (λ s. T-not (f n) t s))) in
+    (w .0, w .1, w .2, omega (arith, w .3), w .4, w .5))
     (tested (f n))
 
 -- the walk of a case 12 to 18, by its number: 14 is met in the walk of 13
@@ -100,16 +126,16 @@ module _ (g t : List ℕ) (l : ℕ) (table : WellFormed g) where
   known-one n k =
       ⊎-elim (λ a. inl (ltb→lt (ruleOf t n) (rules g) (subst (λ (b : Bool). T b) (chosen (appliesRule t n) _ _ a) k)))
       (λ a.
-          let w : T (ltb (ruleOf t n - terminalMark) (symbols g) and not (nonterminal g (ruleOf t n - terminalMark))) =
-                  subst (λ (b : Bool). T b) (passed-over (appliesRule t n) _ _ a) k in
-          let x : ruleOf t n - terminalMark < symbols g = ltb→lt (ruleOf t n - terminalMark) (symbols g) (and-left _ _ w) in
-          let f : SymbolFormed g (ruleOf t n - terminalMark) = table .symbol (ruleOf t n - terminalMark) x in
-          inr (record {
-              symbol = ruleOf t n - terminalMark;
-              inside = x;
-              isTerminal = one (kind g (ruleOf t n - terminalMark)) (f .kindFits) (and-right _ _ w);
-              marked = omega (arith, nltb→le (ruleOf t n) terminalMark a)
-          }))
+      let w : T (ltb (ruleOf t n - terminalMark) (symbols g) and not (nonterminal g (ruleOf t n - terminalMark))) =
+      subst (λ (b : Bool). T b) (passed-over (appliesRule t n) _ _ a) k in
+      let x : ruleOf t n - terminalMark < symbols g = ltb→lt (ruleOf t n - terminalMark) (symbols g) (and-left _ _ w) in
+      let f : SymbolFormed g (ruleOf t n - terminalMark) = table .symbol (ruleOf t n - terminalMark) x in
+      inr (record {
+        symbol = ruleOf t n - terminalMark;
+        inside = x;
+        isTerminal = one (kind g (ruleOf t n - terminalMark)) (f .kindFits) (and-right _ _ w);
+        marked = omega (arith, nltb→le (ruleOf t n) terminalMark a);
+      }))
       (tested (appliesRule t n))
     where
       one : (k : ℕ) → k ≤ 1 → T (not (eqb k 0)) → k ≡ 1
@@ -127,8 +153,8 @@ module _ (g t : List ℕ) (l : ℕ) (table : WellFormed g) where
       (not-T (appliesRule t n) (λ a. let s : ruleOf t n < terminalMark = ltb→lt (ruleOf t n) terminalMark a in omega (arith, w .marked))))
       (and-intro _ _ (lt→ltb (ruleOf t n - terminalMark) (symbols g) (omega (arith, w .inside)))
       (not-T (nonterminal g (ruleOf t n - terminalMark)) (λ z.
-          let zero-kind : kind g (ruleOf t n - terminalMark) ≡ 0 = eqb→eq _ 0 z in
-          omega (arith, w .isTerminal, ap (λ (x : ℕ). kind g x) e))))
+      let zero-kind : kind g (ruleOf t n - terminalMark) ≡ 0 = eqb→eq _ 0 z in
+      omega (arith, w .isTerminal, ap (λ (x : ℕ). kind g x) e))))
 
   -- where the words are known, a child stands in one of seven slots
   slots-short : (n i c : ℕ) → T (knownWord g t n) → ChildOf g t n i c → i ≤ 7
@@ -147,19 +173,21 @@ module _ (g t : List ℕ) (l : ℕ) (table : WellFormed g) where
   size-case f =
       ⊎-elim
       (λ a.
-          ⊎-elim
-          (λ b.
-              ⊎-elim (λ c. absurd (T-not (sizeFits t) f (and-intro _ _ a (and-intro _ _ b c))))
-              (λ c. case.tooManyNodes (nleb→lt (nodes t) mostNodes c)) (tested (leb (nodes t) mostNodes)))
-          (λ b. let z : nodes t < 1 = nleb→lt 1 (nodes t) b in case.noNodes (omega arith)) (tested (leb 1 (nodes t))))
+      ⊎-elim
+      (λ b.
+      ⊎-elim (λ c. absurd (T-not (sizeFits t) f (and-intro _ _ a (and-intro _ _ b c))))
+      (λ c. case.tooManyNodes (nleb→lt (nodes t) mostNodes c)) (tested (leb (nodes t) mostNodes)))
+      (λ b. let z : nodes t < 1 = nleb→lt 1 (nodes t) b in case.noNodes (omega arith)) (tested (leb 1 (nodes t))))
       (λ a. case.brokenNode (λ e. T-not (eqb (length t % 8) 0) a (eq-T (length t % 8) 0 e)))
       (tested (eqb (length t % 8) 0))
 
   size-passed : T (sizeFits t) → (length t % 8 ≡ 0) × (1 ≤ nodes t) × (nodes t ≤ mostNodes)
   unfolding sizeFits
-  size-passed s =
-      (eqb→eq (length t % 8) 0 (and-left _ _ s), leb→le 1 (nodes t) (and-left _ _ (and-right _ _ s)),
-      leb→le (nodes t) mostNodes (and-right _ _ (and-right _ _ s)))
+  size-passed s = (
+    eqb→eq (length t % 8) 0 (and-left _ _ s),
+    leb→le 1 (nodes t) (and-left _ _ (and-right _ _ s)),
+    leb→le (nodes t) mostNodes (and-right _ _ (and-right _ _ s)),
+  )
 
   -- 13
   word-case : (n : ℕ) → n < nodes t → T (not (knownWord g t n)) → C (NoSuchRule n)
@@ -172,23 +200,23 @@ module _ (g t : List ℕ) (l : ℕ) (table : WellFormed g) where
   slot-case n i h s f =
       ⊎-elim
       (λ u.
-          let w : ChildOf g t n (suc i) (child t n (suc i)) =
-                  used-child g t n (suc i) h (omega arith) (leb→le (suc i) (usedSlots g t n) u) in
-          let e : T (not (ltb n (child t n (suc i)) and ltb (child t n (suc i)) (nodes t))) =
-                  subst (λ (b : Bool). T (not b)) (chosen (leb (suc i) (usedSlots g t n)) _ _ u) f in
-          ⊎-elim
-          (λ a.
-              ⊎-elim
-              (λ b. absurd (T-not (ltb n (child t n (suc i)) and ltb (child t n (suc i)) (nodes t)) e (and-intro _ _ a b)))
-              (λ b. case.childNoNode n (suc i) (child t n (suc i)) w (nltb→le (child t n (suc i)) (nodes t) b))
-              (tested (ltb (child t n (suc i)) (nodes t))))
-          (λ a. case.childNotAbove n (suc i) (child t n (suc i)) w (nltb→le n (child t n (suc i)) a))
-          (tested (ltb n (child t n (suc i)))))
+      let w : ChildOf g t n (suc i) (child t n (suc i)) =
+      used-child g t n (suc i) h (omega arith) (leb→le (suc i) (usedSlots g t n) u) in
+      let e : T (not (ltb n (child t n (suc i)) and ltb (child t n (suc i)) (nodes t))) =
+      subst (λ (b : Bool). T (not b)) (chosen (leb (suc i) (usedSlots g t n)) _ _ u) f in
+      ⊎-elim
+      (λ a.
+      ⊎-elim
+      (λ b. absurd (T-not (ltb n (child t n (suc i)) and ltb (child t n (suc i)) (nodes t)) e (and-intro _ _ a b)))
+      (λ b. case.childNoNode n (suc i) (child t n (suc i)) w (nltb→le (child t n (suc i)) (nodes t) b))
+      (tested (ltb (child t n (suc i)) (nodes t))))
+      (λ a. case.childNotAbove n (suc i) (child t n (suc i)) w (nltb→le n (child t n (suc i)) a))
+      (tested (ltb n (child t n (suc i)))))
       (λ u.
-          let e : T (not (eqb (child t n (suc i)) 0)) =
-                  subst (λ (b : Bool). T (not b)) (passed-over (leb (suc i) (usedSlots g t n)) _ _ u) f in
-          case.unusedNotZero n (suc i) h (nleb→lt (suc i) (usedSlots g t n) u) (omega arith)
-          (λ z. T-not (eqb (child t n (suc i)) 0) e (eq-T (child t n (suc i)) 0 z)))
+      let e : T (not (eqb (child t n (suc i)) 0)) =
+      subst (λ (b : Bool). T (not b)) (passed-over (leb (suc i) (usedSlots g t n)) _ _ u) f in
+      case.unusedNotZero n (suc i) h (nleb→lt (suc i) (usedSlots g t n) u) (omega arith)
+      (λ z. T-not (eqb (child t n (suc i)) 0) e (eq-T (child t n (suc i)) 0 z)))
       (tested (leb (suc i) (usedSlots g t n)))
 
   slots-case : (n : ℕ) → n < nodes t → T (not (slotsFit g t n)) → C (BadChild n)
@@ -204,8 +232,8 @@ module _ (g t : List ℕ) (l : ℕ) (table : WellFormed g) where
   unfolding slotFits
   child-passed n i c k s w =
       let u : T (ltb n (child t n i) and ltb (child t n i) (nodes t)) =
-              subst (λ (b : Bool). T b) (chosen (leb i (usedSlots g t n)) _ _ (le→leb i (usedSlots g t n) (child-slot n i c w)))
-              (slot-at n i s (w .first) (slots-short n i c k w)) in
+      subst (λ (b : Bool). T b) (chosen (leb i (usedSlots g t n)) _ _ (le→leb i (usedSlots g t n) (child-slot n i c w)))
+      (slot-at n i s (w .first) (slots-short n i c k w)) in
       subst (λ (d : ℕ). (n < d) × (d < nodes t)) (w .names)
       (ltb→lt n (child t n i) (and-left _ _ u), ltb→lt (child t n i) (nodes t) (and-right _ _ u))
 
@@ -233,8 +261,8 @@ module _ (g t : List ℕ) (l : ℕ) (table : WellFormed g) where
       let w = all-fails (usedSlots g t n) (λ i. eqb (symbolAtNode g t (child t n (suc i))) (symbolOf g (ruleOf t n) (suc i))) f in
       case.childDiffers n (suc (w .0)) (child t n (suc (w .0))) (used-child g t n (suc (w .0)) h (omega arith) (w .1))
       (λ e.
-          T-not (eqb (symbolAtNode g t (child t n (suc (w .0)))) (symbolOf g (ruleOf t n) (suc (w .0)))) (w .2)
-          (eq-T (symbolAtNode g t (child t n (suc (w .0)))) (symbolOf g (ruleOf t n) (suc (w .0))) e))
+      T-not (eqb (symbolAtNode g t (child t n (suc (w .0)))) (symbolOf g (ruleOf t n) (suc (w .0)))) (w .2)
+      (eq-T (symbolAtNode g t (child t n (suc (w .0)))) (symbolOf g (ruleOf t n) (suc (w .0))) e))
 
   symbol-passed : (n i c : ℕ) → T (childrenFit g t n) → ChildOf g t n i c → symbolAtNode g t c ≡ symbolOf g (ruleOf t n) i
   unfolding childrenFit
@@ -259,16 +287,19 @@ module _ (g t : List ℕ) (l : ℕ) (table : WellFormed g) where
   count-case k c a h f =
       ⊎-elim
       (λ z. case.neverChild c a h (λ n i w.
-          omega (arith, count-yes (λ k. namesNode g t c k) (8 * n + i) (names k n i c w),
-          count-up (λ k. namesNode g t c k) (suc (8 * n + i)) (8 * nodes t) (inside-words k n i c w))))
+      omega (
+        arith,
+        count-yes (λ k. namesNode g t c k) (8 * n + i) (names k n i c w),
+        count-up (λ k. namesNode g t c k) (suc (8 * n + i)) (8 * nodes t) (inside-words k n i c w),
+      )))
       (λ z.
-          ⊎-elim (λ y. absurd (f (omega arith)))
-          (λ y.
-              let w = count-pair (λ k. namesNode g t c k) (8 * nodes t) y in
-              case.childTwice c (w .0 / 8) (w .0 % 8) (w .1 / 8) (w .1 % 8) a h
-              (names-slot g t c (w .0) (omega (arith, w .2, w .3)) (w .4)) (names-slot g t c (w .1) (w .3) (w .5))
-              (λ e. omega (arith, w .2, e .0, e .1)))
-          (below-or-not (count (8 * nodes t) (λ k. namesNode g t c k)) 2))
+      ⊎-elim (λ y. absurd (f (omega arith)))
+      (λ y.
+      let w = count-pair (λ k. namesNode g t c k) (8 * nodes t) y in
+      case.childTwice c (w .0 / 8) (w .0 % 8) (w .1 / 8) (w .1 % 8) a h
+      (names-slot g t c (w .0) (omega (arith, w .2, w .3)) (w .4)) (names-slot g t c (w .1) (w .3) (w .5))
+      (λ e. omega (arith, w .2, e .0, e .1)))
+      (below-or-not (count (8 * nodes t) (λ k. namesNode g t c k)) 2))
       (below-or-not (count (8 * nodes t) (λ k. namesNode g t c k)) 1)
 
   once-case : AllKnown → (c : ℕ) → c < nodes t → T (not (onceChild g t c)) → C (NotOneParent c)
@@ -291,8 +322,8 @@ module _ (g t : List ℕ) (l : ℕ) (table : WellFormed g) where
   one-slot : AllKnown → (c n i m j : ℕ) → 1 ≤ c → T (onceChild g t c) → ChildOf g t n i c → ChildOf g t m j c → (n ≡ m) × (i ≡ j)
   one-slot k c n i m j a s v w =
       let e : 8 * n + i ≡ 8 * m + j =
-              count-only (λ k. namesNode g t c k) (8 * nodes t) (8 * n + i) (8 * m + j) (once-passed c a s) (inside-words k n i c v)
-              (inside-words k m j c w) (names k n i c v) (names k m j c w) in
+      count-only (λ k. namesNode g t c k) (8 * nodes t) (8 * n + i) (8 * m + j) (once-passed c a s) (inside-words k n i c v)
+      (inside-words k m j c w) (names k n i c v) (names k m j c w) in
       let x = slots-short n i c (k n (v .inside)) v in
       let y = slots-short m j c (k m (w .inside)) w in
       (omega arith, omega arith)
@@ -351,12 +382,12 @@ module _ (g t : List ℕ) (l : ℕ) (table : WellFormed g) where
   in-tree =
       let end : ℕ = 19 * (2 * nodes t + 2) in
       within-then C (key t) _ _ end (in-size end (omega arith)) (λ a.
-          within-then C (key t) _ _ end (in-nodes end (omega arith)) (λ b.
-              within-then C (key t) _ _ end (in-root end (omega arith)) (λ c.
-                  within-then C (key t) _ _ end (in-children end (omega arith)) (λ d.
-                      within-then C (key t) _ _ end (in-once end b (omega arith)) (λ e.
-                          within-unless C (key t) (leb (valueWords t) l) ValuesTooShort end
-                          (λ f. case.fewValues (nleb→lt (valueWords t) l f)) (omega arith))))))
+      within-then C (key t) _ _ end (in-nodes end (omega arith)) (λ b.
+      within-then C (key t) _ _ end (in-root end (omega arith)) (λ c.
+      within-then C (key t) _ _ end (in-children end (omega arith)) (λ d.
+      within-then C (key t) _ _ end (in-once end b (omega arith)) (λ e.
+      within-unless C (key t) (leb (valueWords t) l) ValuesTooShort end
+      (λ f. case.fewValues (nleb→lt (valueWords t) l f)) (omega arith))))))
 
   -- Each part, once the check has passed a key of it.
   past-unless : (b : Bool) (n : Refusal) (k : ℕ) → key t n ≤ k → Past (unless b n) k → T b
@@ -472,8 +503,11 @@ module _ (g t : List ℕ) (l : ℕ) (table : WellFormed g) where
     where
       go : Place g t l m → Place g t l n → Earlier g m n → key t m < key t n
       go x y (earlierWalk s) =
-          omega (arith, block-inside (2 * nodes t + 2) (step m) (2 * placeOf m + (numberOf m - step m)) (step n) (later-step m n x y s)
-          (omega (arith, x .bounds, x .node)))
+          omega (
+            arith,
+            block-inside (2 * nodes t + 2) (step m) (2 * placeOf m + (numberOf m - step m)) (step n) (later-step m n x y s)
+                (omega (arith, x .bounds, x .node)),
+          )
       go x y (earlierPlace w s) = omega (arith, ap (λ (k : ℕ). k * (2 * nodes t + 2)) (same-step m n x y w), x .bounds)
       go x y (lowerOccurrence w e s) = absurd (omega (arith, y .single))
       go x y (lowerNumber w e u s) = omega (arith, ap (λ (k : ℕ). k * (2 * nodes t + 2)) (same-step m n x y w), same-step m n x y w, x .bounds, y .bounds)

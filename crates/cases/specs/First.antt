@@ -8,8 +8,24 @@ use mathlib.Core.List.{List}
 use lib.Dec.{ltb, eqb}
 use Rattle.refusals.specs.declared.Refusal.{Refusal}
 use Rattle.refusals.specs.declared.Refusal.the-variants.{
-    EndsEarly, OutOfRange, WrongClass, NoOccurrence, NotDefining, Undefined, LeftOver, TooShort, CircularIdp, CircularEdp, Stuck,
-    TreeSize, NoSuchRule, BadChild, RootNotStart, ChildDiffers, NotOneParent, ValuesTooShort
+  EndsEarly,
+  OutOfRange,
+  WrongClass,
+  NoOccurrence,
+  NotDefining,
+  Undefined,
+  LeftOver,
+  TooShort,
+  CircularIdp,
+  CircularEdp,
+  Stuck,
+  TreeSize,
+  NoSuchRule,
+  BadChild,
+  RootNotStart,
+  ChildDiffers,
+  NotOneParent,
+  ValuesTooShort,
 }
 use Rattle.refusals.specs.Numbers.{numberOf, placeOf, secondOf}
 use Rattle.grammar.specs.declared.Verdict.{Verdict}

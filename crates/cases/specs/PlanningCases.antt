@@ -16,14 +16,11 @@ pub data PlanningCase (g : List ℕ) (rowsLength planLength : ℕ) : Refusal →
   -- 8: "rows (place 0), else plan (place 1) too short": "at least 64R", "at least 256 + 112R"
   rowsTooShort : rowsLength < rowWords (rules g) → PlanningCase g rowsLength planLength (TooShort 0)
   planTooShort : planLength < planWords (rules g) → PlanningCase g rowsLength planLength (TooShort 1)
-
   -- 9: "some IDP has a cycle", at a rule and an occurrence on it; the order names the lowest
   idpCycle : (r o : ℕ) → T (ruleCounts g r) → IDP⁺ g r o o → PlanningCase g rowsLength planLength (CircularIdp r o)
-
   -- 10: "no IDP has a cycle, some EDP has", at a rule and an occurrence on it; a cycle in an IDP is an earlier case
   edpCycle : (set : ℕ → ℕ → ℕ) → PaperSets g set → (r o : ℕ) → T (ruleCounts g r) → OnCycle (EDP g set r) o
       → PlanningCase g rowsLength planLength (CircularEdp r o)
-
   -- 11: "no action is ready and some remain", at the rule
   noneReady : (set : ℕ → ℕ → ℕ) → PaperSets g set → (r : ℕ) → T (ruleCounts g r) → LeftOut g set r
       → PlanningCase g rowsLength planLength (Stuck r)

@@ -73,8 +73,8 @@ module _ (g t : List ℕ) (n m : ℕ) (h : usedSlots g t n ≤ 7) where
   used-part =
       count-same (usedSlots g t n) (λ i. namesNode g t m (8 * n + (1 + i))) (λ i. eqb (child t n (suc i)) m)
       (λ i l.
-          let e : 1 + i ≡ suc i = omega arith in
-          ap (λ (x : ℕ). namesNode g t m (8 * n + x)) e ∙ slot-used g t n m (suc i) (omega arith) (omega arith) l)
+      let e : 1 + i ≡ suc i = omega arith in
+      ap (λ (x : ℕ). namesNode g t m (8 * n + x)) e ∙ slot-used g t n m (suc i) (omega arith) (omega arith) l)
 
   unused-part : count (7 - usedSlots g t n) (λ i. namesNode g t m (8 * n + (1 + (usedSlots g t n + i)))) ≡ 0
   unused-part =
@@ -92,8 +92,8 @@ module _ (g t : List ℕ) (n m : ℕ) (h : usedSlots g t n ≤ 7) where
   unfolding slotNames
   node-names =
       let none : count 1 (λ i. namesNode g t m (8 * n + i)) ≡ 0 =
-              count-nothing 1 (λ i. namesNode g t m (8 * n + i))
-              (λ i l. let e : i ≡ 0 = omega arith in ap (λ (x : ℕ). namesNode g t m (8 * n + x)) e ∙ slot-first g t n m) in
+      count-nothing 1 (λ i. namesNode g t m (8 * n + i))
+      (λ i l. let e : i ≡ 0 = omega arith in ap (λ (x : ℕ). namesNode g t m (8 * n + x)) e ∙ slot-first g t n m) in
       count-on 1 7 (λ i. namesNode g t m (8 * n + i)) ∙ omega (arith, none, seven)
 
 -- one slot more
@@ -132,14 +132,15 @@ pub named-turn : (entry t : List ℕ) (n used : ℕ) (named : List ℕ) (i c : �
     → c ≡ getD t (8 * n + i + 1) 0 → NamedTo entry t n used (set named c (getD named c 0 + 1)) (i + 1)
 named-turn entry t n used named i c w l e =
     record {
-        naming = w .naming;
-        done = omega arith;
-        size = length-set named c (getD named c 0 + 1) ∙ w .size;
-        counts = λ m b. ⊎-elim (λ q. here m b q) (λ q. there m b q) (same-or-not m c)
+      naming = w .naming;
+      done = omega arith;
+      size = length-set named c (getD named c 0 + 1) ∙ w .size;
+      counts = λ m b. ⊎-elim (λ q. here m b q) (λ q. there m b q) (same-or-not m c);
     }
   where
     is-child : c ≡ child t n (suc i)
     is-child = let q : 8 * n + i + 1 ≡ 8 * n + suc i = omega arith in e ∙ ap (λ (x : ℕ). getD t x 0) q
+
     here : (m : ℕ) → m < length entry → m ≡ c → word (set named c (getD named c 0 + 1)) m ≡ word entry m + slotNames t n m (i + 1)
     here m b q =
         let v : _≡_ {A = ℕ} (cond (eqb (child t n (suc i)) m) 1 0) 1 = ap {B = ℕ} (λ (x : Bool). cond x 1 0) (eq-eqb (child t n (suc i)) m (sym is-child ∙ sym q)) in
@@ -147,10 +148,11 @@ named-turn entry t n used named i c w l e =
         ap (λ (x : ℕ). word (set named c (getD named c 0 + 1)) x) q
         ∙ (getD-set-same named c (getD named c 0 + 1) 0 (named-inside entry t n used named i c w l e)
         ∙ omega (arith, slot-count t n m i, v, z, w .counts m b))
+
     there : (m : ℕ) → m < length entry → (m ≡ c → ⊥) → word (set named c (getD named c 0 + 1)) m ≡ word entry m + slotNames t n m (i + 1)
     there m b q =
         let v : _≡_ {A = ℕ} (cond (eqb (child t n (suc i)) m) 1 0) 0 =
-                ap {B = ℕ} (λ (x : Bool). cond x 1 0) (ne-eqb (child t n (suc i)) m (λ z. q (sym (is-child ∙ z)))) in
+        ap {B = ℕ} (λ (x : Bool). cond x 1 0) (ne-eqb (child t n (suc i)) m (λ z. q (sym (is-child ∙ z)))) in
         getD-set-other named c m (getD named c 0 + 1) 0 q ∙ omega (arith, slot-count t n m i, v, w .counts m b)
 
 pub named-finish : (entry t : List ℕ) (n used : ℕ) (named : List ℕ) (i : ℕ) → NamedTo entry t n used named i → used ≤ i
@@ -187,41 +189,47 @@ pub counted-start : (g t : List ℕ) → Known g t → CountedTo g t (replicate 
 unfolding count
 counted-start g t k =
     record {
-        known = k;
-        done = omega arith;
-        names = record { size = length-replicate {A = ℕ} 1024 0; counts = λ m l. getD-replicate {A = ℕ} 1024 m 0 0 l }
+      known = k;
+      done = omega arith;
+      names = record { size = length-replicate {A = ℕ} 1024 0; counts = λ m l. getD-replicate {A = ℕ} 1024 m 0 0 l };
     }
 
 pub counted-naming : (g t named : List ℕ) (n used : ℕ) → CountedTo g t named n → n < nodes t → used ≡ usedSlots g t n → used ≤ 7
     → Naming named t n used
 counted-naming g t named n used w h e l =
     record {
-        node = omega (arith, w .known .few);
-        there = h;
-        short = l;
-        low = λ m.
-            ⊎-elim (λ b. omega (arith, w .names .counts m b, count-le (8 * n) (λ k. namesNode g t m k)))
-            (λ b. omega (arith, List·getD-eq-default named 0 {n = m} (omega (arith, w .names .size)))) (below-or-not m 1024);
-        inside = λ i b.
-            let q : child t n (suc i) < nodes t = w .known .inside n (suc i) h (omega arith) (omega (arith, e)) in
-            omega (arith, w .names .size, w .known .few)
+      node = omega (arith, w .known .few);
+      there = h;
+      short = l;
+      low = λ m.
+          ⊎-elim (λ b. omega (arith, w .names .counts m b, count-le (8 * n) (λ k. namesNode g t m k)))
+          (λ b. omega (arith, List·getD-eq-default named 0 {n = m} (omega (arith, w .names .size)))) (below-or-not m 1024);
+      inside = λ i b.
+          let q : child t n (suc i) < nodes t = w .known .inside n (suc i) h (omega arith) (omega (arith, e)) in
+          omega (arith, w .names .size, w .known .few);
     }
 
 pub counted-turn : (g t named : List ℕ) (n used : ℕ) (next : List ℕ) → CountedTo g t named n → n < nodes t → used ≡ usedSlots g t n → used ≤ 7
     → NamedMore named next t n used → CountedTo g t next (n + 1)
 counted-turn g t named n used next w h e l v =
     record {
-        known = w .known;
-        done = omega arith;
-        names = record {
-            size = v .size ∙ w .names .size;
-            counts = λ m b.
-                let p : 8 * (n + 1) ≡ 8 * n + 8 = omega arith in
-                let q : slotNames t n m used ≡ slotNames t n m (usedSlots g t n) = ap (slotNames t n m) e in
-                omega (arith, v .counts m (omega (arith, w .names .size)), w .names .counts m b,
-                ap (λ (k : ℕ). count k (λ k. namesNode g t m k)) p, count-on (8 * n) 8 (λ k. namesNode g t m k),
-                node-names g t n m (subst (λ (x : ℕ). x ≤ 7) e l), q)
-        }
+      known = w .known;
+      done = omega arith;
+      names = record {
+        size = v .size ∙ w .names .size;
+        counts = λ m b.
+            let p : 8 * (n + 1) ≡ 8 * n + 8 = omega arith in
+            let q : slotNames t n m used ≡ slotNames t n m (usedSlots g t n) = ap (slotNames t n m) e in
+            omega (
+              arith,
+              v .counts m (omega (arith, w .names .size)),
+              w .names .counts m b,
+              ap (λ (k : ℕ). count k (λ k. namesNode g t m k)) p,
+              count-on (8 * n) 8 (λ k. namesNode g t m k),
+              node-names g t n m (subst (λ (x : ℕ). x ≤ 7) e l),
+              q,
+            );
+      };
     }
 
 pub counted-finish : (g t named : List ℕ) (n k : ℕ) → CountedTo g t named n → k ≡ nodes t → k ≤ n → Names g t k named

@@ -148,15 +148,15 @@ module _ (h : ℕ → Bool) where
   steps-more i u e f q =
       T-true _ (all-intro (i + 1) (λ k. h (suc k))
       (λ k l.
-          ⊎-elim (λ m. all-at i (λ k. h (suc k)) (true-T _ e) k m)
-          (λ m. let e′ : i + 1 ≡ suc k = omega arith in subst (λ (x : ℕ). T (h x)) e′ (true-T _ (sym f ∙ q))) (below-suc k i (omega arith))))
+      ⊎-elim (λ m. all-at i (λ k. h (suc k)) (true-T _ e) k m)
+      (λ m. let e′ : i + 1 ≡ suc k = omega arith in subst (λ (x : ℕ). T (h x)) e′ (true-T _ (sym f ∙ q))) (below-suc k i (omega arith))))
 
   steps-stop : (n i : ℕ) (u : Bool) → i < n → u ≡ h (i + 1) → u ≡ false → false ≡ all n (λ k. h (suc k))
   steps-stop n i u l f q =
       sym (T-false _ (not-T (all n (λ k. h (suc k)))
       (λ s.
-          T-not (h (i + 1)) (false-T _ (sym f ∙ q))
-          (let e : suc i ≡ i + 1 = omega arith in subst (λ (x : ℕ). T (h x)) e (all-at n (λ k. h (suc k)) s i l)))))
+      T-not (h (i + 1)) (false-T _ (sym f ∙ q))
+      (let e : suc i ≡ i + 1 = omega arith in subst (λ (x : ℕ). T (h x)) e (all-at n (λ k. h (suc k)) s i l)))))
 
 -- slot after slot, for 14
 pub slots-none : (t : List ℕ) (n used : ℕ) → slotTestsTo t n used 0 ≡ true
@@ -179,8 +179,12 @@ slots-end t n used i e h l = let q : i ≡ 7 = omega arith in sym (subst (λ (x 
 pub used-slot : (g t : List ℕ) (n p used i : ℕ) → AllSlots g t n p used → i < used → UsedSlot g t n p (i + 1)
 used-slot g t n p used i w l =
     record {
-        node = w .node; first = omega arith; last = omega (arith, w .usedIs); short = omega (arith, w .short); rule = w .rule;
-        inTable = omega (arith, w .inTable)
+      node = w .node;
+      first = omega arith;
+      last = omega (arith, w .usedIs);
+      short = omega (arith, w .short);
+      rule = w .rule;
+      inTable = omega (arith, w .inTable);
     }
 
 pub children-none : (g t : List ℕ) (n : ℕ) → childTestsTo g t n 0 ≡ true
@@ -209,13 +213,13 @@ pub rule-slots : (g offsets t : List ℕ) (n r p v : ℕ) → Ready g offsets �
 rule-slots g offsets t n r p v w k h e l f q =
     let m : r < rules g = below-of-known g t n r k h e l in
     record {
-        node = h;
-        usedIs = used-rule g offsets t n r p v w e l m f q;
-        short = right-seven g offsets r p v w m f q;
-        rule = f ∙ (offset-is g offsets r w m ∙ ap (ruleAt g) e);
-        inTable =
-            let s : p ≡ ruleAt g r = f ∙ offset-is g offsets r w m in
-            omega (arith, rule-room g (w .good) r m, s, q ∙ ap (lengthAt g) s)
+      node = h;
+      usedIs = used-rule g offsets t n r p v w e l m f q;
+      short = right-seven g offsets r p v w m f q;
+      rule = f ∙ (offset-is g offsets r w m ∙ ap (ruleAt g) e);
+      inTable =
+          let s : p ≡ ruleAt g r = f ∙ offset-is g offsets r w m in
+          omega (arith, rule-room g (w .good) r m, s, q ∙ ap (lengthAt g) s);
     }
 
 pub children-rule : (g t : List ℕ) (n p v : ℕ) (u : Bool) → AllSlots g t n p v → u ≡ childTestsTo g t n v → u ≡ childrenFit g t n

@@ -12,7 +12,13 @@ use borrow.Author.Tests.{le-leb, lt-leb, eq-eqb, ne-eqb}
 use Rattle.basics.proofs.TestLaws.{and-left, and-right, true-T, chosen, passed-over, tested, all-at}
 use Rattle.refusals.specs.declared.Refusal.{Refusal}
 use Rattle.refusals.specs.declared.Refusal.the-variants.{
-    TreeSize, NoSuchRule, BadChild, RootNotStart, ChildDiffers, NotOneParent, ValuesTooShort
+  TreeSize,
+  NoSuchRule,
+  BadChild,
+  RootNotStart,
+  ChildDiffers,
+  NotOneParent,
+  ValuesTooShort,
 }
 use Rattle.grammar.specs.declared.Verdict.{Verdict}
 use Rattle.grammar.specs.declared.Verdict.the-variants.{Good, Refused}
@@ -22,7 +28,15 @@ use Rattle.grammar.specs.Verdicts.{_then_, unless, each}
 use Rattle.grammar.proofs.VerdictLaws.{then-first, then-second, unless-passes, each-at}
 use Rattle.trees.specs.Tree.{mostNodes, nodes, ruleOf, appliesRule, child, usedSlots, symbolAtNode, valueWords}
 use Rattle.trees.specs.Checking.{
-    sizeFits, knownWord, slotFits, slotsFit, nodeFault, rootIsStart, childrenFit, onceChild, checkTree
+  sizeFits,
+  knownWord,
+  slotFits,
+  slotsFit,
+  nodeFault,
+  rootIsStart,
+  childrenFit,
+  onceChild,
+  checkTree,
 }
 use Rattle.checking.specs.Walk.{Ready, Known, Names, childrenFault, namedFault}
 use Rattle.checking.proofs.NodeTestLaws.{known-below}
@@ -64,8 +78,8 @@ unfolding usedSlots
 used-seven g offsets t n w k =
     ⊎-elim
     (λ a.
-        let b : ruleOf t n < rules g = known-below g t n (ruleOf t n) k refl (ltb→lt (ruleOf t n) 32768 a) in
-        subst⁻¹ (λ (x : ℕ). x ≤ 7) (chosen (appliesRule t n) (rightLength g (ruleOf t n)) 0 a) (accepted g (w .good) .rule (ruleOf t n) b .lengthFits))
+    let b : ruleOf t n < rules g = known-below g t n (ruleOf t n) k refl (ltb→lt (ruleOf t n) 32768 a) in
+    subst⁻¹ (λ (x : ℕ). x ≤ 7) (chosen (appliesRule t n) (rightLength g (ruleOf t n)) 0 a) (accepted g (w .good) .rule (ruleOf t n) b .lengthFits))
     (λ a. subst⁻¹ (λ (x : ℕ). x ≤ 7) (passed-over (appliesRule t n) (rightLength g (ruleOf t n)) 0 a) (omega arith)) (tested (appliesRule t n))
 
 -- what 13 and 14 show
@@ -73,19 +87,21 @@ pub known-all : (g offsets t : List ℕ) (k : ℕ) (v : Verdict) → Ready g off
 unfolding nodeFault slotsFit slotFits
 known-all g offsets t k v w few e f h =
     record {
-        few = few;
-        known = λ n l. unless-passes (knownWord g t n) (NoSuchRule n) (then-first _ _ (at n l));
-        inside = λ n i l b m.
-            let q : suc (i - 1) ≡ i = omega arith in
-            let s : T (slotFits g t n i) = subst (λ (x : ℕ). T (slotFits g t n x)) q (slot n (i - 1) l (omega (arith, seven n l))) in
-            ltb→lt (child t n i) (nodes t)
-            (and-right _ _ (subst (λ (x : Bool). T x) (chosen (leb i (usedSlots g t n)) _ _ (le→leb i (usedSlots g t n) m)) s))
+      few = few;
+      known = λ n l. unless-passes (knownWord g t n) (NoSuchRule n) (then-first _ _ (at n l));
+      inside = λ n i l b m.
+          let q : suc (i - 1) ≡ i = omega arith in
+          let s : T (slotFits g t n i) = subst (λ (x : ℕ). T (slotFits g t n x)) q (slot n (i - 1) l (omega (arith, seven n l))) in
+          ltb→lt (child t n i) (nodes t)
+          (and-right _ _ (subst (λ (x : Bool). T x) (chosen (leb i (usedSlots g t n)) _ _ (le→leb i (usedSlots g t n) m)) s));
     }
   where
     at : (n : ℕ) → n < nodes t → nodeFault g t n ≡ Good
     at n l = each-at (nodes t) (λ n. nodeFault g t n) (subst (λ (x : ℕ). each x (λ n. nodeFault g t n) ≡ Good) e (sym f ∙ h)) n l
+
     slot : (n i : ℕ) → n < nodes t → i < 7 → T (slotFits g t n (suc i))
     slot n i l b = all-at 7 (λ i. slotFits g t n (suc i)) (unless-passes (slotsFit g t n) (BadChild n) (then-second _ _ (at n l))) i b
+
     seven : (n : ℕ) → n < nodes t → usedSlots g t n ≤ 7
     seven n l = used-seven g offsets t n w (unless-passes (knownWord g t n) (NoSuchRule n) (then-first _ _ (at n l)))
 

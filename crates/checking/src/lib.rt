@@ -2,7 +2,6 @@
 // The grammar is a table that reading accepted, with the offsets of its rules.
 use grammar::Verdict;
 use refusals::Refusal;
-
 ghost use mathlib.Core.Path.{_≡_};
 ghost use Prim.Native.Nat.{ℕ, _+_, _*_, _≤_, _<_};
 ghost use lib.Dec.{T};
@@ -189,7 +188,14 @@ fn child_fits(words: &[u16], offsets: &[u16; 64], t: &[u16], n: usize, p: usize,
 }
 
 // 16 at the used slots of node n, whose rule starts at word p.
-fn slots_match(words: &[u16], offsets: &[u16; 64], t: &[u16], n: usize, p: usize, used: usize) -> bool
+fn slots_match(
+    words: &[u16],
+    offsets: &[u16; 64],
+    t: &[u16],
+    n: usize,
+    p: usize,
+    used: usize,
+) -> bool
     requires { ⌜ walk.Ready (now words) (now offsets) ⌝ }
     requires { ⌜ walk.Known (now words) (now t) ⌝ }
     requires { ⌜ walk.AllSlots (now words) (now t) n p used ⌝ }

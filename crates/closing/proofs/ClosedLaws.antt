@@ -14,7 +14,18 @@ use Rattle.bits.proofs.CollectLaws.{collect-lt}
 use Rattle.basics.specs.Tests.{_and_}
 use Rattle.basics.specs.Lists.{word}
 use Rattle.basics.proofs.TestLaws.{
-    and-intro, and-left, and-right, or-left, or-right, or-cases, chosen, passed-over, tested, eq-T, some-at, some-find
+  and-intro,
+  and-left,
+  and-right,
+  or-left,
+  or-right,
+  or-cases,
+  chosen,
+  passed-over,
+  tested,
+  eq-T,
+  some-at,
+  some-find,
 }
 use Rattle.basics.proofs.ListLaws.{length-tabulate, getD-tabulate}
 use Rattle.closing.specs.Rows.{leads, reaches, reachesSome, reachedFrom, connectedRow, rewritten, connected}
@@ -49,8 +60,8 @@ module _ (rows : List ℕ) (base among from to : ℕ) (k : Kept rows base among)
       ∙ passed-over (leb base j and ltb j (base + 64) and hasb (j - base) among) _ _
       (not-T (leb base j and ltb j (base + 64) and hasb (j - base) among)
       (λ t.
-          ⊎-elim (λ l. omega (arith, leb→le base j (and-left _ _ t)))
-          (λ l. omega (arith, ltb→lt j (base + 64) (and-left _ _ (and-right _ _ t)))) out))
+      ⊎-elim (λ l. omega (arith, leb→le base j (and-left _ _ t)))
+      (λ l. omega (arith, ltb→lt j (base + 64) (and-left _ _ (and-right _ _ t)))) out))
 
   -- what reaches an occurrence is one, and what an occurrence reaches is one
   starts : (o a : ℕ) → o < 64 → T (hasb a among) → T (reaches rows base o a) → T (hasb o among)
@@ -79,12 +90,12 @@ module _ (rows : List ℕ) (base among from to : ℕ) (k : Kept rows base among)
       let s = some-find 64 _ r in
       let t = some-find 64 _ (subst (λ (y : Bool). T y) (hasb-collect 64 x _ (hasb-below 64 x _ (collect-lt 64 _) e)) e) in
       record {
-          source = s .0;
-          target = t .0;
-          sourceIn = and-left _ _ (s .2);
-          targetIn = and-left _ _ (t .2);
-          before = and-right _ _ (s .2);
-          after = and-right _ _ (t .2)
+        source = s .0;
+        target = t .0;
+        sourceIn = and-left _ _ (s .2);
+        targetIn = and-left _ _ (t .2);
+        before = and-right _ _ (s .2);
+        after = and-right _ _ (t .2);
       }
 
   reaches-source : (o x : ℕ) → Joins o x → T (reachesSome (word rows (base + o)) o from)
@@ -106,8 +117,8 @@ module _ (rows : List ℕ) (base among from to : ℕ) (k : Kept rows base among)
   idle-row o h n =
       not-T (reachesSome (word rows (base + o)) o from)
       (λ t.
-          let s = some-find 64 _ t in
-          T-not (hasb o among) n (starts o (s .0) h (wf (s .0) (and-left _ _ (s .2))) (and-right _ _ (s .2))))
+      let s = some-find 64 _ t in
+      T-not (hasb o among) n (starts o (s .0) h (wf (s .0) (and-left _ _ (s .2))) (and-right _ _ (s .2))))
 
   -- each row of the rule is the row with the arcs added
   connected-row : (o : ℕ) → o < 64 → word (connected rows base among from to) (base + o) ≡ connectedRow rows base from to o
@@ -117,15 +128,15 @@ module _ (rows : List ℕ) (base among from to : ℕ) (k : Kept rows base among)
       getD-tabulate (length rows) _ 0 (base + o) (omega (arith, k .room))
       ∙ ⊎-elim
       (λ t.
-          chosen (leb base (base + o) and ltb (base + o) (base + 64) and hasb (base + o - base) among) _ _
-          (and-intro _ _ (le→leb base (base + o) (omega arith))
-          (and-intro _ _ (lt→ltb (base + o) (base + 64) (omega arith)) (subst⁻¹ (λ (y : ℕ). T (hasb y among)) back t)))
-          ∙ ap (λ (y : ℕ). connectedRow rows base from to y) back)
+      chosen (leb base (base + o) and ltb (base + o) (base + 64) and hasb (base + o - base) among) _ _
+      (and-intro _ _ (le→leb base (base + o) (omega arith))
+      (and-intro _ _ (lt→ltb (base + o) (base + 64) (omega arith)) (subst⁻¹ (λ (y : ℕ). T (hasb y among)) back t)))
+      ∙ ap (λ (y : ℕ). connectedRow rows base from to y) back)
       (λ t.
-          passed-over (leb base (base + o) and ltb (base + o) (base + 64) and hasb (base + o - base) among) _ _
-          (not-T (leb base (base + o) and ltb (base + o) (base + 64) and hasb (base + o - base) among)
-          (λ s. T-not (hasb o among) t (subst (λ (y : ℕ). T (hasb y among)) back (and-right _ _ (and-right _ _ s)))))
-          ∙ sym (passed-over (reachesSome (word rows (base + o)) o from) _ _ (idle-row o h t)))
+      passed-over (leb base (base + o) and ltb (base + o) (base + 64) and hasb (base + o - base) among) _ _
+      (not-T (leb base (base + o) and ltb (base + o) (base + 64) and hasb (base + o - base) among)
+      (λ s. T-not (hasb o among) t (subst (λ (y : ℕ). T (hasb y among)) back (and-right _ _ (and-right _ _ s)))))
+      ∙ sym (passed-over (reachesSome (word rows (base + o)) o from) _ _ (idle-row o h t)))
       (tested (hasb o among))
 
   -- what a row leads to afterwards: what it led to, or what the new arcs join
@@ -135,9 +146,9 @@ module _ (rows : List ℕ) (base among from to : ℕ) (k : Kept rows base among)
       let s : T (hasb x (connectedRow rows base from to o)) = subst (λ (y : ℕ). T (hasb x y)) (connected-row o h) t in
       ⊎-elim
       (λ r.
-          ⊎-elim (λ l. inl l) (λ l. inr (found o x r l))
-          (union-cases x (word rows (base + o)) (reachedFrom rows base to)
-          (subst (λ (y : ℕ). T (hasb x y)) (chosen (reachesSome (word rows (base + o)) o from) _ _ r) s)))
+      ⊎-elim (λ l. inl l) (λ l. inr (found o x r l))
+      (union-cases x (word rows (base + o)) (reachedFrom rows base to)
+      (subst (λ (y : ℕ). T (hasb x y)) (chosen (reachesSome (word rows (base + o)) o from) _ _ r) s)))
       (λ r. inl (subst (λ (y : ℕ). T (hasb x y)) (passed-over (reachesSome (word rows (base + o)) o from) _ _ r) s))
       (tested (reachesSome (word rows (base + o)) o from))
 
@@ -163,12 +174,12 @@ module _ (rows : List ℕ) (base among from to : ℕ) (k : Kept rows base among)
   connected-arc a b ia ib =
       connected-joins a b (hasb-below 64 a among small (wf a ia))
       (record {
-          source = a;
-          target = b;
-          sourceIn = ia;
-          targetIn = ib;
-          before = or-left _ _ (eq-T a a refl);
-          after = or-left _ _ (eq-T b b refl)
+        source = a;
+        target = b;
+        sourceIn = ia;
+        targetIn = ib;
+        before = or-left _ _ (eq-T a a refl);
+        after = or-left _ _ (eq-T b b refl);
       })
 
   reaches-after : (o m a : ℕ) → o < 64 → m < 64 → T (leads rows base o m) → T (reaches rows base m a) → T (reaches rows base o a)
@@ -187,13 +198,13 @@ module _ (rows : List ℕ) (base among from to : ℕ) (k : Kept rows base among)
   pub connected-kept : Kept (connected rows base among from to) base among
   connected-kept =
       record {
-          room = omega (arith, k .room, connected-length);
-          closed = λ o m x ho hm l r. second o m x ho hm (connected-cases o m ho l) (connected-cases m x hm r);
-          from = λ o x ho l.
-              ⊎-elim (λ s. k .from o x ho s) (λ s. starts o (s .source) ho (wf (s .source) (s .sourceIn)) (s .before))
-              (connected-cases o x ho l);
-          to = λ o x ho l.
-              ⊎-elim (λ s. k .to o x ho s) (λ s. ends (s .target) x (wt (s .target) (s .targetIn)) (s .after)) (connected-cases o x ho l)
+        room = omega (arith, k .room, connected-length);
+        closed = λ o m x ho hm l r. second o m x ho hm (connected-cases o m ho l) (connected-cases m x hm r);
+        from = λ o x ho l.
+            ⊎-elim (λ s. k .from o x ho s) (λ s. starts o (s .source) ho (wf (s .source) (s .sourceIn)) (s .before))
+            (connected-cases o x ho l);
+        to = λ o x ho l.
+            ⊎-elim (λ s. k .to o x ho s) (λ s. ends (s .target) x (wt (s .target) (s .targetIn)) (s .after)) (connected-cases o x ho l);
       }
     where
       second : (o m x : ℕ) → o < 64 → m < 64 → T (leads rows base o m) ⊎ Joins o m → T (leads rows base m x) ⊎ Joins m x
@@ -202,32 +213,32 @@ module _ (rows : List ℕ) (base among from to : ℕ) (k : Kept rows base among)
       second o m x ho hm (inl l) (inr r) =
           connected-joins o x ho
           (record {
-              source = r .source;
-              target = r .target;
-              sourceIn = r .sourceIn;
-              targetIn = r .targetIn;
-              before = reaches-after o m (r .source) ho hm l (r .before);
-              after = r .after
+            source = r .source;
+            target = r .target;
+            sourceIn = r .sourceIn;
+            targetIn = r .targetIn;
+            before = reaches-after o m (r .source) ho hm l (r .before);
+            after = r .after;
           })
       second o m x ho hm (inr l) (inl r) =
           connected-joins o x ho
           (record {
-              source = l .source;
-              target = l .target;
-              sourceIn = l .sourceIn;
-              targetIn = l .targetIn;
-              before = l .before;
-              after = arrives-after (l .target) m x (hasb-below 64 (l .target) among small (wt (l .target) (l .targetIn))) hm (l .after) r
+            source = l .source;
+            target = l .target;
+            sourceIn = l .sourceIn;
+            targetIn = l .targetIn;
+            before = l .before;
+            after = arrives-after (l .target) m x (hasb-below 64 (l .target) among small (wt (l .target) (l .targetIn))) hm (l .after) r;
           })
       second o m x ho hm (inr l) (inr r) =
           connected-joins o x ho
           (record {
-              source = l .source;
-              target = r .target;
-              sourceIn = l .sourceIn;
-              targetIn = r .targetIn;
-              before = l .before;
-              after = r .after
+            source = l .source;
+            target = r .target;
+            sourceIn = l .sourceIn;
+            targetIn = r .targetIn;
+            before = l .before;
+            after = r .after;
           })
 
   -- and stay below a transitive relation that has the arcs
@@ -239,9 +250,11 @@ module _ (rows : List ℕ) (base among from to : ℕ) (k : Kept rows base among)
       ahead : (a b : ℕ) → U a b → T (eqb o a) ⊎ T (leads rows base o a) → U o b
       ahead a b u (inl e) = subst⁻¹ (λ (y : ℕ). U y b) (eqb→eq o a e) u
       ahead a b u (inr e) = trans o a b (f o a ho e) u
+
       onward : (b : ℕ) → b < 64 → U o b → T (eqb b x) ⊎ T (leads rows base b x) → U o x
       onward b h u (inl e) = subst (λ (y : ℕ). U o y) (eqb→eq b x e) u
       onward b h u (inr e) = trans o b x u (f b x h e)
+
       through : Joins o x → U o x
       through j =
           onward (j .target) (hasb-below 64 (j .target) among small (wt (j .target) (j .targetIn)))

@@ -14,13 +14,35 @@ use Rattle.bits.proofs.LowestLaws.{first-of}
 use Rattle.bits.proofs.RestLaws.{rest-of}
 use Rattle.bits.proofs.CollectLaws.{collect-lt}
 use Rattle.bits.proofs.MemberLaws.{
-    hasb-below, hasb-collect, hasb-ext, union-cases, union-left, union-right, insert-cases, insert-new, insert-old, common-both, both-common,
-    none-left
+  hasb-below,
+  hasb-collect,
+  hasb-ext,
+  union-cases,
+  union-left,
+  union-right,
+  insert-cases,
+  insert-new,
+  insert-old,
+  common-both,
+  both-common,
+  none-left,
 }
 use Rattle.basics.specs.Tests.{_and_, _or_, some}
 use Rattle.basics.specs.Lists.{word}
 use Rattle.basics.proofs.TestLaws.{
-    chosen, passed-over, true-T, and-intro, and-left, and-right, or-left, or-right, or-cases, eq-T, some-at, some-find, same-test
+  chosen,
+  passed-over,
+  true-T,
+  and-intro,
+  and-left,
+  and-right,
+  or-left,
+  or-right,
+  or-cases,
+  eq-T,
+  some-at,
+  some-find,
+  same-test,
 }
 use Rattle.closing.specs.Rows.{leads, reaches, reachedFrom, reachesSome, connectedRow, connected}
 use Rattle.closing.proofs.RewriteLaws.{Rewriting, rewriting-start, next-same, turn, finish, still, gone}
@@ -38,11 +60,11 @@ module _ (rows : List ℕ) (base set : ℕ) where
   unfolding reaches
   reaching-start small =
       record {
-          fits = small;
-          within = λ b t. t;
-          own = λ b t. t;
-          has = λ b x t n l. absurd (T-not (hasb b set) n t);
-          sound = λ x t. (x, t, or-left _ _ (eq-T x x refl))
+        fits = small;
+        within = λ b t. t;
+        own = λ b t. t;
+        has = λ b x t n l. absurd (T-not (hasb b set) n t);
+        sound = λ x t. (x, t, or-left _ _ (eq-T x x refl));
       }
 
   pub reaching-turn : (reached left b next more : ℕ) → Reaching rows base set reached left → First left b
@@ -51,22 +73,23 @@ module _ (rows : List ℕ) (base set : ℕ) where
   unfolding reaches leads
   reaching-turn reached left b next more w f e h small =
       record {
-          fits = small;
-          within = λ c t. w .within c (still b left c (subst (λ (y : ℕ). T (hasb c y)) taken t));
-          own = λ c t. grown c (union-left c reached (word rows (base + b)) (w .own c t));
-          has = λ c x t n l.
-              grown x
-              (⊎-elim (λ q. union-right x reached (word rows (base + b)) (subst (λ (y : ℕ). T (hasb x (word rows (base + y)))) q l))
-              (λ q. union-left x reached (word rows (base + b)) (w .has c x t q l))
-              (gone b left c (subst (λ (y : ℕ). T (not (hasb c y))) taken n)));
-          sound = λ x t.
-              ⊎-elim (λ l. w .sound x l)
-              (λ l. (b, w .within b (true-T _ (bit-has b left (f .member))), or-right (eqb b x) (hasb x (word rows (base + b))) l))
-              (union-cases x reached (word rows (base + b)) (subst (λ (y : ℕ). T (hasb x y)) h t))
+        fits = small;
+        within = λ c t. w .within c (still b left c (subst (λ (y : ℕ). T (hasb c y)) taken t));
+        own = λ c t. grown c (union-left c reached (word rows (base + b)) (w .own c t));
+        has = λ c x t n l.
+            grown x
+            (⊎-elim (λ q. union-right x reached (word rows (base + b)) (subst (λ (y : ℕ). T (hasb x (word rows (base + y)))) q l))
+            (λ q. union-left x reached (word rows (base + b)) (w .has c x t q l))
+            (gone b left c (subst (λ (y : ℕ). T (not (hasb c y))) taken n)));
+        sound = λ x t.
+            ⊎-elim (λ l. w .sound x l)
+            (λ l. (b, w .within b (true-T _ (bit-has b left (f .member))), or-right (eqb b x) (hasb x (word rows (base + b))) l))
+            (union-cases x reached (word rows (base + b)) (subst (λ (y : ℕ). T (hasb x y)) h t));
       }
     where
       taken : next ≡ remove b left
       taken = rest-of left b next f e
+
       grown : (x : ℕ) → T (hasb x (union reached (word rows (base + b)))) → T (hasb x more)
       grown x t = subst⁻¹ (λ (y : ℕ). T (hasb x y)) h t
 
@@ -76,12 +99,13 @@ module _ (rows : List ℕ) (base set : ℕ) where
   reaching-finish reached left w e small =
       hasb-ext 64 reached (reachedFrom rows base set) (w .fits) (collect-lt 64 _)
       (λ x h.
-          same-test (hasb x reached) (hasb x (reachedFrom rows base set))
-          (λ t. subst⁻¹ (λ (y : Bool). T y) (hasb-collect 64 x _ h) (there x (w .sound x t)))
-          (λ t. back x (some-find 64 _ (subst (λ (y : Bool). T y) (hasb-collect 64 x _ h) t))))
+      same-test (hasb x reached) (hasb x (reachedFrom rows base set))
+      (λ t. subst⁻¹ (λ (y : Bool). T y) (hasb-collect 64 x _ h) (there x (w .sound x t)))
+      (λ t. back x (some-find 64 _ (subst (λ (y : Bool). T y) (hasb-collect 64 x _ h) t))))
     where
       there : (x : ℕ) → (b : ℕ) × T (hasb b set) × T (reaches rows base b x) → T (some 64 (λ b. hasb b set and reaches rows base b x))
       there x s = some-at 64 _ (s .0) (hasb-below 64 (s .0) set small (s .1)) (and-intro _ _ (s .1) (s .2))
+
       back : (x : ℕ) → (b : ℕ) × (b < 64) × T (hasb b set and reaches rows base b x) → T (hasb x reached)
       back x s =
           let member : T (hasb (s .0) set) = and-left _ _ (s .2) in
@@ -139,12 +163,12 @@ module _ (entry : List ℕ) (base among from to reached : ℕ) where
       → Connecting entry base among from to reached entry among
   connecting-start small h e =
       record {
-          arrives = e;
-          room = h;
-          rewriting =
-              rewriting-start entry base among (λ o. connectedRow entry base from to o)
-              (λ o t. omega (arith, hasb-below 64 o among small t));
-          size = refl
+        arrives = e;
+        room = h;
+        rewriting =
+            rewriting-start entry base among (λ o. connectedRow entry base from to o)
+            (λ o t. omega (arith, hasb-below 64 o among small t));
+        size = refl;
       }
 
   -- the row that is done next gets the arcs
@@ -155,15 +179,17 @@ module _ (entry : List ℕ) (base among from to reached : ℕ) where
   unfolding connectedRow
   connecting-turn rows left o next v w f e h =
       let r = turn entry base among (λ o. connectedRow entry base from to o) rows left o next v (w .rewriting) f (rest-of left o next f e)
-              (h ∙ row) in
+      (h ∙ row) in
       record { arrives = w .arrives; room = w .room; rewriting = r; size = r .size }
     where
       row-with : ℕ → ℕ → ℕ
       row-with x y = cond (reachesSome x o from) (union x y) x
+
       same : word rows (base + o) ≡ word entry (base + o)
       same =
           next-same entry base among (λ o. connectedRow entry base from to o) rows left o (w .rewriting) (f .small)
           (true-T (hasb o left) (bit-has o left (f .member)))
+
       row : row-with (word rows (base + o)) reached ≡ connectedRow entry base from to o
       row = ap (λ (x : ℕ). row-with x reached) same ∙ ap (row-with (word entry (base + o))) (w .arrives)
 

@@ -23,9 +23,9 @@ pub moved-forth : (m n k s : ℕ) → T (hasb k (raised n (field m s))) → (n �
 moved-forth m n k s t =
     ⊎-elim (λ l. absurd (subst (λ (b : Bool). T b) (raised-low n k (field m s) l) t))
     (λ l.
-        let u : T (hasb (k - n) (field m s)) = subst (λ (b : Bool). T b) (has-raised n k (field m s) l) t in
-        let small : k - n < 8 = hasb-below 8 (k - n) (field m s) (field-lt m s) u in
-        (l, small, subst (λ (b : Bool). T b) (has-field m (k - n) s small) u))
+    let u : T (hasb (k - n) (field m s)) = subst (λ (b : Bool). T b) (has-raised n k (field m s) l) t in
+    let small : k - n < 8 = hasb-below 8 (k - n) (field m s) (field-lt m s) u in
+    (l, small, subst (λ (b : Bool). T b) (has-field m (k - n) s small) u))
     (below-or-not k n)
 
 pub moved-back : (m n k s : ℕ) → n ≤ k → k - n < 8 → T (hasb (m + (k - n)) s) → T (hasb k (raised n (field m s)))
@@ -47,8 +47,8 @@ module _ (rows : List ℕ) (base i : ℕ) where
   gather-none =
       hasb-ext 64 0 (arcsAt rows base i 0) (omega arith) (arcs-lt 0)
       (λ k h.
-          same-test (hasb k 0) (hasb k (arcsAt rows base i 0)) (λ t. absurd (omega (arith, hasb-below 0 k 0 (omega arith) t)))
-          (λ t. absurd (omega (arith, ltb→lt (k / 8) 0 (and-left _ _ (subst (λ (b : Bool). T b) (arc-at 0 k h) t))))))
+      same-test (hasb k 0) (hasb k (arcsAt rows base i 0)) (λ t. absurd (omega (arith, hasb-below 0 k 0 (omega arith) t)))
+      (λ t. absurd (omega (arith, ltb→lt (k / 8) 0 (and-left _ _ (subst (λ (b : Bool). T b) (arc-at 0 k h) t))))))
 
   -- the bits of the row of attribute a, at its places, fit
   part-lt : (a row : ℕ) → a < 8 → raised (8 * a) (field (8 * i) row) < 2 ^ 64
@@ -64,10 +64,11 @@ module _ (rows : List ℕ) (base i : ℕ) where
       let s = moved-forth (8 * i) (8 * a) k (word rows (base + 8 * i + a)) t in
       let e : k / 8 ≡ a = omega (arith, s .0, s .1) in
       let place : base + 8 * i + a ≡ base + (8 * i + k / 8) = omega arith in
-      let bitIs : 8 * i + (k - 8 * a) ≡ 8 * i + k % 8 = omega (arith, s .0, s .1) in
-      (e,
-      subst (λ (p : ℕ). T (hasb (8 * i + k % 8) (word rows p))) place
-      (subst (λ (p : ℕ). T (hasb p (word rows (base + 8 * i + a)))) bitIs (s .2)))
+      let bitIs : 8 * i + (k - 8 * a) ≡ 8 * i + k % 8 = omega (arith, s .0, s .1) in (
+        e,
+        subst (λ (p : ℕ). T (hasb (8 * i + k % 8) (word rows p))) place
+            (subst (λ (p : ℕ). T (hasb p (word rows (base + 8 * i + a)))) bitIs (s .2)),
+      )
 
   part-back : (a k : ℕ) → k / 8 ≡ a → T (leads rows base (8 * i + k / 8) (8 * i + k % 8))
       → T (hasb k (raised (8 * a) (field (8 * i) (word rows (base + 8 * i + a)))))
@@ -86,25 +87,25 @@ module _ (rows : List ℕ) (base i : ℕ) where
       hasb-ext 64 (union (arcsAt rows base i a) (raised (8 * a) (field (8 * i) (word rows (base + 8 * i + a))))) (arcsAt rows base i (a + 1))
       (union-lt 64 _ _ (arcs-lt a) (part-lt a _ h)) (arcs-lt (a + 1))
       (λ k l.
-          same-test _ _
-          (λ t.
-              subst⁻¹ (λ (b : Bool). T b) (arc-at (a + 1) k l)
-              (⊎-elim
-              (λ u.
-                  let v = subst (λ (b : Bool). T b) (arc-at a k l) u in
-                  and-intro _ _ (lt→ltb (k / 8) (a + 1) (omega (arith, ltb→lt (k / 8) a (and-left _ _ v)))) (and-right _ _ v))
-              (λ u. let v = part-forth a k l u in and-intro _ _ (lt→ltb (k / 8) (a + 1) (omega (arith, v .0))) (v .1))
-              (union-cases k (arcsAt rows base i a) _ t)))
-          (λ t.
-              let v = subst (λ (b : Bool). T b) (arc-at (a + 1) k l) t in
-              ⊎-elim
-              (λ u.
-                  union-left k (arcsAt rows base i a) _
-                  (subst⁻¹ (λ (b : Bool). T b) (arc-at a k l) (and-intro _ _ (lt→ltb (k / 8) a u) (and-right _ _ v))))
-              (λ u.
-                  union-right k (arcsAt rows base i a) _
-                  (part-back a k (omega (arith, ltb→lt (k / 8) (a + 1) (and-left _ _ v))) (and-right _ _ v)))
-              (below-or-not (k / 8) a)))
+      same-test _ _
+      (λ t.
+      subst⁻¹ (λ (b : Bool). T b) (arc-at (a + 1) k l)
+      (⊎-elim
+      (λ u.
+      let v = subst (λ (b : Bool). T b) (arc-at a k l) u in
+      and-intro _ _ (lt→ltb (k / 8) (a + 1) (omega (arith, ltb→lt (k / 8) a (and-left _ _ v)))) (and-right _ _ v))
+      (λ u. let v = part-forth a k l u in and-intro _ _ (lt→ltb (k / 8) (a + 1) (omega (arith, v .0))) (v .1))
+      (union-cases k (arcsAt rows base i a) _ t)))
+      (λ t.
+      let v = subst (λ (b : Bool). T b) (arc-at (a + 1) k l) t in
+      ⊎-elim
+      (λ u.
+      union-left k (arcsAt rows base i a) _
+      (subst⁻¹ (λ (b : Bool). T b) (arc-at a k l) (and-intro _ _ (lt→ltb (k / 8) a u) (and-right _ _ v))))
+      (λ u.
+      union-right k (arcsAt rows base i a) _
+      (part-back a k (omega (arith, ltb→lt (k / 8) (a + 1) (and-left _ _ v))) (and-right _ _ v)))
+      (below-or-not (k / 8) a)))
 
 -- The same as the loop meets it: the part is in a local, made in two steps.
 pub gather-turn : (rows : List ℕ) (base i a arcs bits part next : ℕ) → a < 8 → arcs ≡ arcsAt rows base i a

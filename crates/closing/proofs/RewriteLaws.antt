@@ -46,12 +46,12 @@ module _ (entry : List ℕ) (base among : ℕ) (f : ℕ → ℕ) where
   unfolding done
   rewriting-start h =
       record {
-          size = refl;
-          room = h;
-          within = λ o t. t;
-          words = λ j.
-              sym (passed-over (done base among among j) _ _
-              (not-T (done base among among j) (λ t. T-not (hasb (j - base) among) (and-right _ _ t) (and-right _ _ (and-right _ _ (and-left _ _ t))))))
+        size = refl;
+        room = h;
+        within = λ o t. t;
+        words = λ j.
+            sym (passed-over (done base among among j) _ _
+            (not-T (done base among among j) (λ t. T-not (hasb (j - base) among) (and-right _ _ t) (and-right _ _ (and-right _ _ (and-left _ _ t))))));
       }
 
   module _ (rows : List ℕ) (left o : ℕ) (w : Rewriting entry base among f rows left) (small : o < 64) (stands : T (hasb o left)) where
@@ -89,19 +89,21 @@ module _ (entry : List ℕ) (base among : ℕ) (f : ℕ → ℕ) where
     pub rewriting-turn : (v : ℕ) → v ≡ f o → Rewriting entry base among f (set rows (base + o) v) (remove o left)
     rewriting-turn v e =
         record {
-            size = length-set rows (base + o) v ∙ w .size;
-            room = w .room;
-            within = λ i t. w .within i (still o left i t);
-            words = λ j. ⊎-elim (λ q. here j q) (λ q. there j q) (same-or-not j (base + o))
+          size = length-set rows (base + o) v ∙ w .size;
+          room = w .room;
+          within = λ i t. w .within i (still o left i t);
+          words = λ j. ⊎-elim (λ q. here j q) (λ q. there j q) (same-or-not j (base + o));
         }
       where
         back : o ≡ base + o - base
         back = omega arith
+
         here : (j : ℕ) → j ≡ base + o → word (set rows (base + o) v) j ≡ cond (done base among (remove o left) j) (f (j - base)) (word entry j)
         here j q =
             subst⁻¹ (λ (x : ℕ). word (set rows (base + o) v) x ≡ cond (done base among (remove o left) x) (f (x - base)) (word entry x)) q
             (getD-set-same rows (base + o) v 0 (subst⁻¹ (λ (n : ℕ). base + o < n) (w .size) (w .room o (w .within o stands)))
             ∙ (e ∙ (ap f back ∙ sym (chosen (done base among (remove o left) (base + o)) _ _ now-done))))
+
         there : (j : ℕ) → (j ≡ base + o → ⊥) → word (set rows (base + o) v) j ≡ cond (done base among (remove o left) j) (f (j - base)) (word entry j)
         there j q =
             getD-set-other rows (base + o) j v 0 q
@@ -113,9 +115,9 @@ module _ (entry : List ℕ) (base among : ℕ) (f : ℕ → ℕ) where
   rewriting-finish rows w =
       ext-getD 0 rows (rewritten entry base among f) (w .size ∙ sym (length-tabulate (length entry) _))
       (λ j h.
-          w .words j
-          ∙ (ap (λ (x : Bool). cond x (f (j - base)) (word entry j)) (all-done j)
-          ∙ sym (getD-tabulate (length entry) _ 0 j (subst (λ (n : ℕ). j < n) (w .size) h))))
+      w .words j
+      ∙ (ap (λ (x : Bool). cond x (f (j - base)) (word entry j)) (all-done j)
+      ∙ sym (getD-tabulate (length entry) _ 0 j (subst (λ (n : ℕ). j < n) (w .size) h))))
     where
       all-done : (j : ℕ) → done base among 0 j ≡ (leb base j and ltb j (base + 64) and hasb (j - base) among)
       all-done j =

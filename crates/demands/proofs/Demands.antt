@@ -57,13 +57,13 @@ module _ (g rows plan : List ℕ) where
   pub computed-1 : Demand1 g rows plan (answerOf g came) (rowsAfter g came rows) (planAfter g came plan)
   computed-1 =
       record {
-          refuses = planning-refused g (length rows) (length plan);
-          accepts = planning-accepted g (length rows) (length plan);
-          leaves = λ n e.
-              let f : PlanRefuses g (length rows) (length plan) n = planning-refused g (length rows) (length plan) n .0 e in
-              leaves-of g rows plan n (λ h. f)
-              (λ h. absurd (omega (arith, plan-walk g (length rows) (length plan) n (f .applies))));
-          stays = record { rowsBeyond = rows-stay g rows plan; planBeyond = plan-stay g rows plan }
+        refuses = planning-refused g (length rows) (length plan);
+        accepts = planning-accepted g (length rows) (length plan);
+        leaves = λ n e.
+            let f : PlanRefuses g (length rows) (length plan) n = planning-refused g (length rows) (length plan) n .0 e in
+            leaves-of g rows plan n (λ h. f)
+            (λ h. absurd (omega (arith, plan-walk g (length rows) (length plan) n (f .applies))));
+        stays = record { rowsBeyond = rows-stay g rows plan; planBeyond = plan-stay g rows plan };
       }
 
   -- "Every table, tree and buffer size gets an answer."
@@ -92,24 +92,25 @@ module _ (g rows plan : List ℕ) where
     unfolding planAfter
     computed-2 =
         record {
-            acceptedExactly =
-                (λ e.
-                    accepted-exactly g good (length rows) (length plan) space .0
-                    (outcome-accepted g (length rows) (length plan) .1 (planning-accepted g (length rows) (length plan) (planWords (rules g)) .0 e .1)),
-                λ o.
-                    planning-accepted g (length rows) (length plan) (planWords (rules g)) .1
-                    (refl, outcome-accepted g (length rows) (length plan) .0 (ordered-came o)));
-            written = λ o set sets. written-accepted g rows plan (ordered-came o) set sets;
-            setsExist = λ free. (computedSets g, sets-exist g good free);
-            oneNumbering = one-numbering g;
-            neighbouring = λ free set sets. neighbouring-same g good free set sets;
-            sequence = λ o r c. (_, sequence-obeys g good (ordered-idp g (given .formed) o) (o .set) (o .areSets) r c);
-            oneSequence = λ o r c s t v w.
-                let only = sequence-only g good (ordered-idp g (given .formed) o) (o .set) (o .areSets) r c in only s v ∙ sym (only t w);
-            noneLeftOut = λ o r c. none-left-out g good o (o .set) (o .areSets) r c;
-            sound = λ o.
-                let f = ordered-free g good o in
-                subst⁻¹ (λ (x : Outcome). Sound g (planAfter g x plan)) (ordered-came o) (planned-sound g good plan (f .noIdpCycle) (f .noEdpCycle))
+          acceptedExactly = (
+            λ e.
+                accepted-exactly g good (length rows) (length plan) space .0
+                (outcome-accepted g (length rows) (length plan) .1 (planning-accepted g (length rows) (length plan) (planWords (rules g)) .0 e .1)),
+            λ o.
+                planning-accepted g (length rows) (length plan) (planWords (rules g)) .1
+                (refl, outcome-accepted g (length rows) (length plan) .0 (ordered-came o)),
+          );
+          written = λ o set sets. written-accepted g rows plan (ordered-came o) set sets;
+          setsExist = λ free. (computedSets g, sets-exist g good free);
+          oneNumbering = one-numbering g;
+          neighbouring = λ free set sets. neighbouring-same g good free set sets;
+          sequence = λ o r c. (_, sequence-obeys g good (ordered-idp g (given .formed) o) (o .set) (o .areSets) r c);
+          oneSequence = λ o r c s t v w.
+              let only = sequence-only g good (ordered-idp g (given .formed) o) (o .set) (o .areSets) r c in only s v ∙ sym (only t w);
+          noneLeftOut = λ o r c. none-left-out g good o (o .set) (o .areSets) r c;
+          sound = λ o.
+              let f = ordered-free g good o in
+              subst⁻¹ (λ (x : Outcome). Sound g (planAfter g x plan)) (ordered-came o) (planned-sound g good plan (f .noIdpCycle) (f .noEdpCycle));
         }
 
     pub demand-2 : (answer : P.Planned) (rows′ plan′ : List ℕ) → Answered g rows plan answer rows′ plan′ → Demand2 g answer rows′ plan′
@@ -125,12 +126,16 @@ demand-3-sound g p t v budget formed sound none =
     let good : readTable g ≡ Good = read-exactly g .1 formed in
     let tree : checkTree g t (length v) ≡ Good = tree-good g t (length v) good .1 none in
     record {
-        done = run.run-done g p t v good sound tree budget; stopped = run.run-stopped g p t v good sound tree budget;
-        sameRun = ap (λ (m : Machine). m .values) (run.run-machine g p t v good sound tree budget);
-        once = run.attribute-once g p t v good sound tree; afterArguments = run.arguments-before g p t v good sound tree;
-        solves = run.run-solves g p t v good sound tree budget; onlyOnes = run.run-only g p t v good sound tree budget;
-        asMany = run.run-length g p t v good sound tree budget; others = run.run-others g p t v good sound tree budget;
-        stackBound = run.stack-bound g p t v good sound tree
+      done = run.run-done g p t v good sound tree budget;
+      stopped = run.run-stopped g p t v good sound tree budget;
+      sameRun = ap (λ (m : Machine). m .values) (run.run-machine g p t v good sound tree budget);
+      once = run.attribute-once g p t v good sound tree;
+      afterArguments = run.arguments-before g p t v good sound tree;
+      solves = run.run-solves g p t v good sound tree budget;
+      onlyOnes = run.run-only g p t v good sound tree budget;
+      asMany = run.run-length g p t v good sound tree budget;
+      others = run.run-others g p t v good sound tree budget;
+      stackBound = run.stack-bound g p t v good sound tree;
     }
 
 module _ (g rows plan t : List ℕ) (v : List ℤ) (budget : ℕ) where
@@ -149,19 +154,23 @@ module _ (g rows plan t : List ℕ) (v : List ℤ) (budget : ℕ) where
       (rowsAfter g reached rows) (planAfter g reached plan)
   computed-1-run =
       record {
-          refuses = run-refused g rows plan t v budget;
-          leaves = λ n e.
-              let f = run-refused g rows plan t v budget n .0 e in
-              leaves-of g rows plan n (plan-first n f) (tree-late g rows plan t v budget n f);
-          valuesStay = λ n e. values-stay g rows plan t v budget n (run-refused g rows plan t v budget n .0 e);
-          written = λ none. written-accepted g rows plan (outcome-accepted g (length rows) (length plan) .1 (λ n c. none n (inPlan c)));
-          stays = record { rowsBeyond = rows-stay g rows plan; planBeyond = plan-stay g rows plan }
+        refuses = run-refused g rows plan t v budget;
+        leaves = λ n e.
+            let f = run-refused g rows plan t v budget n .0 e in
+            leaves-of g rows plan n (plan-first n f) (tree-late g rows plan t v budget n f);
+        valuesStay = λ n e. values-stay g rows plan t v budget n (run-refused g rows plan t v budget n .0 e);
+        written = λ none. written-accepted g rows plan (outcome-accepted g (length rows) (length plan) .1 (λ n c. none n (inPlan c)));
+        stays = record { rowsBeyond = rows-stay g rows plan; planBeyond = plan-stay g rows plan };
       }
 
   pub every-run : (report : Report) × (v′ : List ℤ) × (rows′ : List ℕ) × (plan′ : List ℕ) × Demand1Run g rows plan t v report v′ rows′ plan′
-  every-run =
-      (record { ran = whole.answer g rows plan t v budget }, whole.values g rows plan t v budget, rowsAfter g reached rows, planAfter g reached plan,
-      computed-1-run)
+  every-run = (
+    record { ran = whole.answer g rows plan t v budget },
+    whole.values g rows plan t v budget,
+    rowsAfter g reached rows,
+    planAfter g reached plan,
+    computed-1-run,
+  )
 
   -- Demand 1, of `run`.
   pub demand-1-run : (report : Report) (v′ : List ℤ) (rows′ plan′ : List ℕ) → runner.Answered g rows plan t v budget report v′ rows′ plan′
@@ -205,16 +214,17 @@ module _ (g rows plan t : List ℕ) (v : List ℤ) (budget : ℕ) where
         → (plan′ ≡ p) × (report .ran ≡ ran g p t v budget .answer) × (v′ ≡ ran g p t v budget .machine .values)
     unfolding whole.came whole.answer whole.values runAnswer valuesAfter
     is-run report v′ rows′ plan′ w =
-        let left : planAfter g reached plan ≡ p = ap (λ (o : Outcome). planAfter g o plan) is-accepted in
-        (w .planIs ∙ left,
-        w .answers
-        ∙ (ap (λ (x : List ℕ). runAnswer g x t reached (checkTree g t (length v)) v budget) left
-        ∙ (ap (λ (o : Outcome). runAnswer g p t o (checkTree g t (length v)) v budget) is-accepted
-        ∙ ap (λ (c : Verdict). runAnswer g p t accepted c v budget) is-tree)),
-        w .valuesAre
-        ∙ (ap (λ (x : List ℕ). valuesAfter g x t reached (checkTree g t (length v)) v budget) left
-        ∙ (ap (λ (o : Outcome). valuesAfter g p t o (checkTree g t (length v)) v budget) is-accepted
-        ∙ ap (λ (c : Verdict). valuesAfter g p t accepted c v budget) is-tree)))
+        let left : planAfter g reached plan ≡ p = ap (λ (o : Outcome). planAfter g o plan) is-accepted in (
+          w .planIs ∙ left,
+          w .answers
+              ∙ (ap (λ (x : List ℕ). runAnswer g x t reached (checkTree g t (length v)) v budget) left
+              ∙ (ap (λ (o : Outcome). runAnswer g p t o (checkTree g t (length v)) v budget) is-accepted
+              ∙ ap (λ (c : Verdict). runAnswer g p t accepted c v budget) is-tree)),
+          w .valuesAre
+              ∙ (ap (λ (x : List ℕ). valuesAfter g x t reached (checkTree g t (length v)) v budget) left
+              ∙ (ap (λ (o : Outcome). valuesAfter g p t o (checkTree g t (length v)) v budget) is-accepted
+              ∙ ap (λ (c : Verdict). valuesAfter g p t accepted c v budget) is-tree)),
+        )
 
     runs : (report : Report) (v′ : List ℤ) (rows′ plan′ : List ℕ) → runner.Answered g rows plan t v budget report v′ rows′ plan′
         → (o : IsOrdered g) (sequence : ℕ → List ℕ) → ((r : ℕ) → T (ruleCounts g r) → Sequence g (o .set) r (sequence r))
@@ -223,9 +233,9 @@ module _ (g rows plan t : List ℕ) (v : List ℤ) (budget : ℕ) where
         let e = is-run report v′ rows′ plan′ w in
         let formed : WellFormed g = read-exactly g .0 is-read in
         let added : total p t ≡ totalOf sequence t =
-                total-stands g p t (length v) (accepted-tree g t (length v) formed is-tree) sequence
-                (λ r c.
-                    accepted-written g is-read (ordered-idp g formed o) (o .set) (o .areSets) rows plan .sequence r c (sequence r) (are r c)) in
+        total-stands g p t (length v) (accepted-tree g t (length v) formed is-tree) sequence
+        (λ r c.
+        accepted-written g is-read (ordered-idp g formed o) (o .set) (o .areSets) rows plan .sequence r c (sequence r) (are r c)) in
         subst⁻¹ (λ (x : List ℕ). Demand3 g x t v budget (totalOf sequence t) (report .ran) v′) (e .0)
         (subst⁻¹ (λ (a : R.Ran). Demand3 g p t v budget (totalOf sequence t) a v′) (e .1)
         (subst⁻¹ (λ (x : List ℤ). Demand3 g p t v budget (totalOf sequence t) (ran g p t v budget .answer) x) (e .2)

@@ -45,13 +45,25 @@ use Rattle.cases.specs.First.{roomWalk, idpWalk, readyWalk, walk}
 use Rattle.cases.specs.AllCases.{RunCase, PlanRefuses, Refuses}
 use Rattle.cases.proofs.PlanTests.{refusedWith, plan-walk}
 use Rattle.cases.proofs.Refusals.{
-    outcome-refused, outcome-accepted, planning-refused, planning-accepted, run-refused, run-carried-out
+  outcome-refused,
+  outcome-accepted,
+  planning-refused,
+  planning-accepted,
+  run-refused,
+  run-carried-out,
 }
 use Rattle.cases.proofs.Leaves.{tree-late}
 use Rattle.demands.specs.Demands.{Leaves, Stays, Demand1, Demand1Run, Given, Demand2, Demand3, Demand3Run}
 use Rattle.demands.proofs.LeavesLaws.{read-past, free-past, accepted-read, accepted-free, written-accepted}
 use Rattle.demands.proofs.Demands.{
-    computed-1, computed-2, plan-first, computed-1-run, is-accepted, is-read, run-ordered, demand-3
+  computed-1,
+  computed-2,
+  plan-first,
+  computed-1-run,
+  is-accepted,
+  is-read,
+  run-ordered,
+  demand-3,
 }
 
 -- rows that hold one relation, over one lent buffer, are one
@@ -64,6 +76,7 @@ one-rows g path lent s t v w b c =
     same-bit zero zero e h l = refl
     same-bit zero (suc y) e h l = omega (arith, e .1 (omega arith))
     same-bit (suc x) y e h l = omega (arith, e .0 (omega arith))
+
     inside : (j : ℕ) → j < 64 * rules g → word s j ≡ word t j
     inside j l =
         let r : ℕ = j / 64 in
@@ -72,10 +85,10 @@ one-rows g path lent s t v w b c =
         let k : T (ruleCounts g r) = lt→ltb r (rules g) (omega arith) in
         bits-ext (word s j) (word t j)
         (λ i.
-            subst (λ (q : ℕ). bit i (word s q) ≡ bit i (word t q)) e
-            (same-bit (bit i (word s (64 * r + o))) (bit i (word t (64 * r + o)))
-            (λ p. w r o i k (omega arith) .1 (v r o i k (omega arith) .0 p), λ p. v r o i k (omega arith) .1 (w r o i k (omega arith) .0 p))
-            (bit-le i (word s (64 * r + o))) (bit-le i (word t (64 * r + o)))))
+        subst (λ (q : ℕ). bit i (word s q) ≡ bit i (word t q)) e
+        (same-bit (bit i (word s (64 * r + o))) (bit i (word t (64 * r + o)))
+        (λ p. w r o i k (omega arith) .1 (v r o i k (omega arith) .0 p), λ p. v r o i k (omega arith) .1 (w r o i k (omega arith) .0 p))
+        (bit-le i (word s (64 * r + o))) (bit-le i (word t (64 * r + o)))))
 
 -- plans in which the same sets and sequences stand, over one lent buffer, are one
 pub one-plan : (g : List ℕ) (set : ℕ → ℕ → ℕ) (lent rows₁ rows₂ s t : List ℕ) → ((r : ℕ) → T (ruleCounts g r) → (out : List ℕ) × Sequence g set r out)
@@ -84,14 +97,15 @@ unfolding sequenceLength actionAt
 one-plan g set lent rows₁ rows₂ s t some v w b c =
     ext-getD 0 s t (b .asMany ∙ sym (c .asMany))
     (λ j h.
-        ⊎-elim (numbers j)
-        (λ l. ⊎-elim (inside j l) (λ m. b .stay j m ∙ sym (c .stay j m)) (below-or-not j (256 + 112 * rules g))) (below-or-not j 256))
+    ⊎-elim (numbers j)
+    (λ l. ⊎-elim (inside j l) (λ m. b .stay j m ∙ sym (c .stay j m)) (below-or-not j (256 + 112 * rules g))) (below-or-not j 256))
   where
     numbers : (j : ℕ) → j < 256 → word s j ≡ word t j
     numbers j l =
         let e : 8 * (j / 8) + j % 8 ≡ j = omega arith in
         subst (λ (q : ℕ). word s q ≡ word t q) e
         (v .setWord (j / 8) (j % 8) (omega arith) (omega arith) ∙ sym (w .setWord (j / 8) (j % 8) (omega arith) (omega arith)))
+
     in-block : (r : ℕ) → T (ruleCounts g r) → (k : ℕ) → k < 112 → word s (256 + 112 * r + k) ≡ word t (256 + 112 * r + k)
     in-block r q zero l =
         let out = some r q in
@@ -106,6 +120,7 @@ one-plan g set lent rows₁ rows₂ s t some v w b c =
         subst (λ (n : ℕ). word s n ≡ word t n) e
         (⊎-elim (λ m. x .actionIs k m ∙ sym (y .actionIs k m)) (λ m. x .zeros k m (omega arith) ∙ sym (y .zeros k m (omega arith)))
         (below-or-not k (length (out .0))))
+
     inside : (j : ℕ) → 256 ≤ j → j < 256 + 112 * rules g → word s j ≡ word t j
     inside j l m =
         let r : ℕ = (j - 256) / 112 in
@@ -129,34 +144,34 @@ module _ (g : List ℕ) (n : Refusal) where
   circular-walk e =
       ⊎-elim
       (λ t.
-          absurd
-          (let q : untouched n ≡ circularIdp n = sym (chosen (leb (walk g n) roomWalk) (untouched n) _ t) ∙ e in
-          let z : _≡_ {A = ℕ} 0 1 = cc in omega arith))
+      absurd
+      (let q : untouched n ≡ circularIdp n = sym (chosen (leb (walk g n) roomWalk) (untouched n) _ t) ∙ e in
+      let z : _≡_ {A = ℕ} 0 1 = cc in omega arith))
       (λ t.
-          ⊎-elim (λ u. omega (arith, nleb→lt (walk g n) roomWalk t, leb→le (walk g n) idpWalk u))
-          (λ u.
-              absurd
-              (let q : unordered n ≡ circularIdp n =
-                      sym (passed-over (leb (walk g n) roomWalk) (untouched n) _ t ∙ passed-over (leb (walk g n) idpWalk) (circularIdp n) (unordered n) u) ∙ e in
-              let z : _≡_ {A = ℕ} 0 1 = cc in omega arith))
-          (tested (leb (walk g n) idpWalk)))
+      ⊎-elim (λ u. omega (arith, nleb→lt (walk g n) roomWalk t, leb→le (walk g n) idpWalk u))
+      (λ u.
+      absurd
+      (let q : unordered n ≡ circularIdp n =
+      sym (passed-over (leb (walk g n) roomWalk) (untouched n) _ t ∙ passed-over (leb (walk g n) idpWalk) (circularIdp n) (unordered n) u) ∙ e in
+      let z : _≡_ {A = ℕ} 0 1 = cc in omega arith))
+      (tested (leb (walk g n) idpWalk)))
       (tested (leb (walk g n) roomWalk))
 
   unordered-walk : refusedWith g n ≡ unordered n → idpWalk < walk g n
   unordered-walk e =
       ⊎-elim
       (λ t.
-          absurd
-          (let q : untouched n ≡ unordered n = sym (chosen (leb (walk g n) roomWalk) (untouched n) _ t) ∙ e in
-          let z : _≡_ {A = ℕ} 0 1 = cc in omega arith))
+      absurd
+      (let q : untouched n ≡ unordered n = sym (chosen (leb (walk g n) roomWalk) (untouched n) _ t) ∙ e in
+      let z : _≡_ {A = ℕ} 0 1 = cc in omega arith))
       (λ t.
-          ⊎-elim
-          (λ u.
-              absurd
-              (let q : circularIdp n ≡ unordered n =
-                      sym (passed-over (leb (walk g n) roomWalk) (untouched n) _ t ∙ chosen (leb (walk g n) idpWalk) (circularIdp n) (unordered n) u) ∙ e in
-              let z : _≡_ {A = ℕ} 0 1 = cc in omega arith))
-          (λ u. nleb→lt (walk g n) idpWalk u) (tested (leb (walk g n) idpWalk)))
+      ⊎-elim
+      (λ u.
+      absurd
+      (let q : circularIdp n ≡ unordered n =
+      sym (passed-over (leb (walk g n) roomWalk) (untouched n) _ t ∙ chosen (leb (walk g n) idpWalk) (circularIdp n) (unordered n) u) ∙ e in
+      let z : _≡_ {A = ℕ} 0 1 = cc in omega arith))
+      (λ u. nleb→lt (walk g n) idpWalk u) (tested (leb (walk g n) idpWalk)))
       (tested (leb (walk g n) roomWalk))
 
 -- what two refusals with one case leave is one
@@ -171,10 +186,12 @@ module _ (g rows plan : List ℕ) where
       where
         comes : came ≡ refusedWith g n
         comes = outcome-refused g (length rows) (length plan) n .1 first
+
         same : (k : Refusal) (f : Refusal → Outcome) → came ≡ f k → ((m : Refusal) → answerOf g (f m) ≡ P.the-variants.Refused m) → k ≡ n
         same k f e h =
             let q : P.the-variants.Refused k ≡ P.the-variants.Refused n =
-                    sym (ap (answerOf g) e ∙ h k) ∙ planning-refused g (length rows) (length plan) n .1 first in cc
+            sym (ap (answerOf g) e ∙ h k) ∙ planning-refused g (length rows) (length plan) n .1 first in cc
+
         go : (o : Outcome) → came ≡ o → s ≡ rowsAfter g came rows
         go (untouched k) e =
             let q : k ≡ n = same k untouched e (λ m. unfold answerOf in refl) in
@@ -212,10 +229,11 @@ module _ (g rows plan : List ℕ) where
     same-written : (s ≡ rowsAfter g came rows) × (p ≡ planAfter g came plan)
     same-written =
         let x : Written g (computedSets g) s p = w (computedSets g) sets in
-        let y : Written g (computedSets g) (rowsAfter g came rows) (planAfter g came plan) = written-accepted g rows plan e (computedSets g) sets in
-        (one-rows g (EDP⁺ g (computedSets g)) rows s (rowsAfter g came rows) (x .rowBits) (y .rowBits) (stays .rowsBeyond) (rows-stay g rows plan),
-        one-plan g (computedSets g) plan s (rowsAfter g came rows) p (planAfter g came plan)
-        (λ r c. (_, sequence-obeys g read free (computedSets g) sets r c)) x y (stays .planBeyond) (plan-stay g rows plan))
+        let y : Written g (computedSets g) (rowsAfter g came rows) (planAfter g came plan) = written-accepted g rows plan e (computedSets g) sets in (
+          one-rows g (EDP⁺ g (computedSets g)) rows s (rowsAfter g came rows) (x .rowBits) (y .rowBits) (stays .rowsBeyond) (rows-stay g rows plan),
+          one-plan g (computedSets g) plan s (rowsAfter g came rows) p (planAfter g came plan)
+              (λ r c. (_, sequence-obeys g read free (computedSets g) sets r c)) x y (stays .planBeyond) (plan-stay g rows plan),
+        )
 
 -- What meets demands 1 and 2 meets the contract of `plan`.
 pub plan-determined : (g rows plan : List ℕ) (answer : P.Planned) (s p : List ℕ) → Demand1 g rows plan answer s p
@@ -225,6 +243,7 @@ plan-determined g rows plan answer s p one two = go (outcome g (length rows) (le
     refused-or-not : (a : P.Planned) → ((n : Refusal) × (a ≡ P.the-variants.Refused n)) ⊎ ((k : ℕ) × (a ≡ P.the-variants.Accepted k))
     refused-or-not (P.the-variants.Refused n) = inl (n, refl)
     refused-or-not (P.the-variants.Accepted k) = inr (k, refl)
+
     go : (o : Outcome) → came g rows plan ≡ o
         → ((n : Refusal) × (answerOf g (came g rows plan) ≡ P.the-variants.Refused n)) ⊎ ((k : ℕ) × (answerOf g (came g rows plan) ≡ P.the-variants.Accepted k))
         → Answered g rows plan answer s p
@@ -234,9 +253,9 @@ plan-determined g rows plan answer s p one two = go (outcome g (length rows) (le
         let v = one .leaves (r .0) is in
         let w = computed-1 g rows plan .leaves (r .0) (r .1) in
         record {
-            answers = is ∙ sym (r .1);
-            rowsAre = same-rows g rows plan (r .0) first s p v w (one .stays .rowsBeyond);
-            planIs = same-plan g rows plan (r .0) first s p v w (one .stays .rowsBeyond)
+          answers = is ∙ sym (r .1);
+          rowsAre = same-rows g rows plan (r .0) first s p v w (one .stays .rowsBeyond);
+          planIs = same-plan g rows plan (r .0) first s p v w (one .stays .rowsBeyond);
         }
     go o e (inr r) =
         let a = planning-accepted g (length rows) (length plan) (r .0) .0 (r .1) in
@@ -261,17 +280,17 @@ module _ (g rows plan t : List ℕ) (v : List ℤ) (budget : ℕ) where
       let left = one .leaves n is in
       let w = computed-1-run g rows plan t v budget .leaves n e in
       let both : (s ≡ rowsAfter g (came g rows plan) rows) × (p ≡ planAfter g (came g rows plan) plan) =
-              ⊎-elim
-              (λ h. same-written g rows plan (tree-late g rows plan t v budget n first h) s p (left .written h) (one .stays))
-              (λ h.
-                  let f = plan-first g rows plan t v budget n first h in
-                  (same-rows g rows plan n f s p left w (one .stays .rowsBeyond), same-plan g rows plan n f s p left w (one .stays .rowsBeyond)))
-              (below-or-not readyWalk (walk g n)) in
+      ⊎-elim
+      (λ h. same-written g rows plan (tree-late g rows plan t v budget n first h) s p (left .written h) (one .stays))
+      (λ h.
+      let f = plan-first g rows plan t v budget n first h in
+      (same-rows g rows plan n f s p left w (one .stays .rowsBeyond), same-plan g rows plan n f s p left w (one .stays .rowsBeyond)))
+      (below-or-not readyWalk (walk g n)) in
       record {
-          answers = is ∙ sym e;
-          valuesAre = one .valuesStay n is ∙ sym (computed-1-run g rows plan t v budget .valuesStay n e);
-          rowsAre = both .0;
-          planIs = both .1
+        answers = is ∙ sym e;
+        valuesAre = one .valuesStay n is ∙ sym (computed-1-run g rows plan t v budget .valuesStay n e);
+        rowsAre = both .0;
+        planIs = both .1;
       }
 
   module _ (none : (n : Refusal) → ¬ RunCase g (length rows) (length plan) t (length v) n) where
@@ -291,19 +310,19 @@ module _ (g rows plan t : List ℕ) (v : List ℤ) (budget : ℕ) where
         let o : IsOrdered g = run-ordered g rows plan t v budget none in
         let d : Demand3 g p t v budget (totalOf sequence t) (report .ran) v′ = three .runs o sequence (are o) in
         let c : Demand3 g (planAfter g (came g rows plan) plan) t v budget (totalOf sequence t) (whole.answer g rows plan t v budget)
-                    (whole.values g rows plan t v budget) =
-                demand-3 g rows plan t v budget none (record { ran = whole.answer g rows plan t v budget }) (whole.values g rows plan t v budget)
-                (rowsAfter g (came g rows plan) rows) (planAfter g (came g rows plan) plan)
-                (record { answers = refl; valuesAre = refl; rowsAre = refl; planIs = refl }) .runs o sequence (are o) in
+        (whole.values g rows plan t v budget) =
+        demand-3 g rows plan t v budget none (record { ran = whole.answer g rows plan t v budget }) (whole.values g rows plan t v budget)
+        (rowsAfter g (came g rows plan) rows) (planAfter g (came g rows plan) plan)
+        (record { answers = refl; valuesAre = refl; rowsAre = refl; planIs = refl }) .runs o sequence (are o) in
         let w = same-written g rows plan (is-accepted g rows plan t v budget none) s p (one .written none) (one .stays) in
         record {
-            answers =
-                ⊎-elim (λ h. d .stopped h ∙ sym (c .stopped h)) (λ h. d .done h ∙ sym (c .done h)) (below-or-not budget (totalOf sequence t));
-            valuesAre =
-                d .sameRun
-                ∙ (ap (λ (x : List ℕ). machineAt g x t v (min budget (totalOf sequence t)) .values) (w .1) ∙ sym (c .sameRun));
-            rowsAre = w .0;
-            planIs = w .1
+          answers =
+              ⊎-elim (λ h. d .stopped h ∙ sym (c .stopped h)) (λ h. d .done h ∙ sym (c .done h)) (below-or-not budget (totalOf sequence t));
+          valuesAre =
+              d .sameRun
+              ∙ (ap (λ (x : List ℕ). machineAt g x t v (min budget (totalOf sequence t)) .values) (w .1) ∙ sym (c .sameRun));
+          rowsAre = w .0;
+          planIs = w .1;
         }
 
   pub run-determined : (report : Report) (v′ : List ℤ) (s p : List ℕ) → Demand1Run g rows plan t v report v′ s p
@@ -315,6 +334,7 @@ module _ (g rows plan t : List ℕ) (v : List ℤ) (budget : ℕ) where
           → runner.Answered g rows plan t v budget report v′ s p
       carried a e h =
           let none = run-carried-out g rows plan t v budget .0 (λ n q. h n (sym e ∙ q)) in carried-run none report v′ s p one (three none)
+
       go : (a : R.Ran) → whole.answer g rows plan t v budget ≡ a → runner.Answered g rows plan t v budget report v′ s p
       go (R.the-variants.Refused n) e = refused-run n e report v′ s p one
       go (R.the-variants.Done k) e = carried (R.the-variants.Done k) e (λ n q. let z : _≡_ {A = ℕ} 0 1 = cc in omega arith)

@@ -69,21 +69,21 @@ module _ (g rows plan : List ℕ) where
   unfolding rowsAfter planAfter
   leaves-of n early late =
       record {
-          nothing = λ h.
-              let e : came ≡ untouched n = early-came g rows plan n (early (omega arith)) h in
-              (ap (λ (o : Outcome). rowsAfter g o rows) e, ap (λ (o : Outcome). planAfter g o plan) e);
-          idpPaths = λ h.
-              let f = early (omega arith) in
-              subst⁻¹ (λ (o : Outcome). RowsHold g (rowsAfter g o rows) (λ r q b. IDP⁺ g r q b)) (nine-came g rows plan n f h)
-              (nine-holds g (read-past n f (omega arith)) n rows);
-          edpPaths = λ h set sets.
-              ⊎-elim (λ l. written-accepted (late l) set sets .rowBits)
-              (λ l.
-                  let f = early l in
-                  subst⁻¹ (λ (o : Outcome). RowsHold g (rowsAfter g o rows) (EDP⁺ g set)) (ten-came g rows plan n f h)
-                  (ten-holds g (read-past n f (omega arith)) (free-past n f h) set sets n rows))
-              (below-or-not readyWalk (walk g n));
-          planStays = λ h.
-              ap (λ (o : Outcome). planAfter g o plan) (outcome-refused g (length rows) (length plan) n .1 (early h)) ∙ plan-kept g n plan;
-          written = λ h set sets. written-accepted (late h) set sets
+        nothing = λ h.
+            let e : came ≡ untouched n = early-came g rows plan n (early (omega arith)) h in
+            (ap (λ (o : Outcome). rowsAfter g o rows) e, ap (λ (o : Outcome). planAfter g o plan) e);
+        idpPaths = λ h.
+            let f = early (omega arith) in
+            subst⁻¹ (λ (o : Outcome). RowsHold g (rowsAfter g o rows) (λ r q b. IDP⁺ g r q b)) (nine-came g rows plan n f h)
+            (nine-holds g (read-past n f (omega arith)) n rows);
+        edpPaths = λ h set sets.
+            ⊎-elim (λ l. written-accepted (late l) set sets .rowBits)
+            (λ l.
+            let f = early l in
+            subst⁻¹ (λ (o : Outcome). RowsHold g (rowsAfter g o rows) (EDP⁺ g set)) (ten-came g rows plan n f h)
+            (ten-holds g (read-past n f (omega arith)) (free-past n f h) set sets n rows))
+            (below-or-not readyWalk (walk g n));
+        planStays = λ h.
+            ap (λ (o : Outcome). planAfter g o plan) (outcome-refused g (length rows) (length plan) n .1 (early h)) ∙ plan-kept g n plan;
+        written = λ h set sets. written-accepted (late h) set sets;
       }

@@ -9,7 +9,18 @@ use lib.Dec.{T, not-T, eqb→eq}
 use lib.ListN.{length}
 use Rattle.basics.proofs.TestLaws.{passed-over, below-or-not}
 use Rattle.grammar.specs.Table.{
-    rules, argumentWords, isConstant, functionsAt, functionAt, ruleAt, functions, functionOf, operation, argument, arguments, occurrence
+  rules,
+  argumentWords,
+  isConstant,
+  functionsAt,
+  functionAt,
+  ruleAt,
+  functions,
+  functionOf,
+  operation,
+  argument,
+  arguments,
+  occurrence,
 }
 use Rattle.grammar.specs.WellFormed.{WellFormed}
 use Rattle.grammar.proofs.AcceptedTable.{occurrence-fits}
@@ -57,25 +68,27 @@ module _ {g : List ℕ} (table : WellFormed g) (r k : ℕ) (known : r < rules g)
         let o = table .function r k known inside .argumentOccurs j (omega (arith, arguments-all h)) in
         subst (λ (x : ℕ). Named g x t n l) e
         (record {
-            there = omega (arith, function-ends);
-            node = node;
-            near = omega (arith, tree .nodesFit);
-            named = occurrence-fits g r (argument g r k j) (table .rule r known) o;
-            inValues =
-                omega (arith,
+          there = omega (arith, function-ends);
+          node = node;
+          near = omega (arith, tree .nodesFit);
+          named = occurrence-fits g r (argument g r k j) (table .rule r known) o;
+          inValues =
+              omega (
+                arith,
                 cell-inside table tree n (argument g r k j) node applies (subst (λ (x : ℕ). T (occurrence g x (argument g r k j))) isRule o),
-                tree .valuesFit)
+                tree .valuesFit,
+              );
         })
 
     start-valued : Valued g start t n l
     start-valued =
         record {
-            near = omega (arith, function-ends, formed-length g table);
-            ends = omega (arith, function-ends, argument-words (operationAt g start) .0);
-            one = λ h. argument-named 0 (start + 2) h (argument-words (operationAt g start) .0) (omega arith);
-            two = λ h. argument-named 1 (start + 3) (omega arith) (two-words (operationAt g start) h) (omega arith);
-            three = λ h. argument-named 2 (start + 4) (omega arith) (three-words (operationAt g start) h) (omega arith);
-            four = λ h. argument-named 3 (start + 5) (omega arith) (omega (arith, words-four (operationAt g start) h)) (omega arith)
+          near = omega (arith, function-ends, formed-length g table);
+          ends = omega (arith, function-ends, argument-words (operationAt g start) .0);
+          one = λ h. argument-named 0 (start + 2) h (argument-words (operationAt g start) .0) (omega arith);
+          two = λ h. argument-named 1 (start + 3) (omega arith) (two-words (operationAt g start) h) (omega arith);
+          three = λ h. argument-named 2 (start + 4) (omega arith) (three-words (operationAt g start) h) (omega arith);
+          four = λ h. argument-named 3 (start + 5) (omega arith) (omega (arith, words-four (operationAt g start) h)) (omega arith);
         }
 
 -- the function of the rule at a node, by the word at which it starts

@@ -15,8 +15,19 @@ use Rattle.order.specs.Computed.{circular}
 use Rattle.plans.specs.Answer.{accepted, unordered, edpPaths, sequencesOf}
 use Rattle.examples.specs.Claims.{planned}
 use Rattle.examples.specs.NearMisses.{
-    chainOfTwo, chainOfThree, orderElsewhere, handedDown, fromTheEnd, writtenLater, nothingUp, expressions, computationSequences,
-    successorInFirst, successorInFirstBy000, heirsTogether, heirsTogetherBy000
+  chainOfTwo,
+  chainOfThree,
+  orderElsewhere,
+  handedDown,
+  fromTheEnd,
+  writtenLater,
+  nothingUp,
+  expressions,
+  computationSequences,
+  successorInFirst,
+  successorInFirstBy000,
+  heirsTogether,
+  heirsTogetherBy000,
 }
 
 -- the sequences of all rules, the visits of all symbols, the set numbers of the first n symbols

@@ -19,7 +19,15 @@ use Rattle.runs.specs.declared.Ran.the-variants.{Done, Stopped}
 use Rattle.runs.specs.Run.{ran}
 use Rattle.text.specs.Listing.{tableText}
 use Rattle.examples.specs.Tables.{
-    tableG, tooManySymbols, copiedRound, crossedCopies, copiedItself, chainOfEight, noAttributes, twoLines, priorities
+  tableG,
+  tooManySymbols,
+  copiedRound,
+  crossedCopies,
+  copiedItself,
+  chainOfEight,
+  noAttributes,
+  twoLines,
+  priorities,
 }
 
 -- planning with room for every table

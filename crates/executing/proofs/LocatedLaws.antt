@@ -51,14 +51,14 @@ pub locating-start : (g : List ℕ) (r p f : ℕ) (starts : List ℕ) → readTa
     → f ≡ functionAt g p 0 → Locating g r starts starts f 0
 locating-start g r p f starts good h e s q =
     record {
-        formed = accepted g good;
-        inside = h;
-        few = accepted g good .rulesFit;
-        size = s;
-        functionIs = q ∙ ap (λ (x : ℕ). functionAt g x 0) e;
-        count = omega arith;
-        here = λ j l. absurd (omega arith);
-        stays = λ i l. refl
+      formed = accepted g good;
+      inside = h;
+      few = accepted g good .rulesFit;
+      size = s;
+      functionIs = q ∙ ap (λ (x : ℕ). functionAt g x 0) e;
+      count = omega arith;
+      here = λ j l. absurd (omega arith);
+      stays = λ i l. refl;
     }
 
 -- the function's word fits 16 bits
@@ -84,24 +84,24 @@ locating-turn g r before starts f k n o next w e h q s =
     let t = target-word g r before starts f k n o w e h q in
     let room : 64 * r + o < length starts = omega (arith, w .size, w .few, w .inside, t .1) in
     record {
-        formed = w .formed;
-        inside = w .inside;
-        few = w .few;
-        size = length-set starts (64 * r + o) f ∙ w .size;
-        functionIs = s ∙ (next-function g (ruleAt g r) k f (w .functionIs) ∙ ap (functionOf g r) (sym (add-one k)));
-        count = omega arith;
-        here = λ j l.
-            ⊎-elim
-            (λ b.
-                getD-set-other starts (64 * r + o) (64 * r + target g r j) f 0
-                (λ i. w .formed .function r k (w .inside) (omega arith) .targetOnce j b (omega (arith, t .0)))
-                ∙ w .here j b)
-            (λ b.
-                let i : 64 * r + target g r j ≡ 64 * r + o = ap (λ (x : ℕ). 64 * r + x) (ap (target g r) b ∙ sym (t .0)) in
-                ap (word (set starts (64 * r + o) f)) i
-                ∙ (getD-set-same starts (64 * r + o) f 0 room ∙ (w .functionIs ∙ ap (functionOf g r) (sym b))))
-            (below-suc j k (omega arith));
-        stays = λ i l. getD-set-other starts (64 * r + o) i f 0 (λ b. omega arith) ∙ w .stays i l
+      formed = w .formed;
+      inside = w .inside;
+      few = w .few;
+      size = length-set starts (64 * r + o) f ∙ w .size;
+      functionIs = s ∙ (next-function g (ruleAt g r) k f (w .functionIs) ∙ ap (functionOf g r) (sym (add-one k)));
+      count = omega arith;
+      here = λ j l.
+          ⊎-elim
+          (λ b.
+          getD-set-other starts (64 * r + o) (64 * r + target g r j) f 0
+          (λ i. w .formed .function r k (w .inside) (omega arith) .targetOnce j b (omega (arith, t .0)))
+          ∙ w .here j b)
+          (λ b.
+          let i : 64 * r + target g r j ≡ 64 * r + o = ap (λ (x : ℕ). 64 * r + x) (ap (target g r) b ∙ sym (t .0)) in
+          ap (word (set starts (64 * r + o) f)) i
+          ∙ (getD-set-same starts (64 * r + o) f 0 room ∙ (w .functionIs ∙ ap (functionOf g r) (sym b))))
+          (below-suc j k (omega arith));
+      stays = λ i l. getD-set-other starts (64 * r + o) i f 0 (λ b. omega arith) ∙ w .stays i l;
     }
 
 pub locating-finish : (g : List ℕ) (r : ℕ) (before starts : List ℕ) (f k n : ℕ) → Locating g r before starts f k → n ≡ functions g r → n ≤ k
@@ -131,16 +131,16 @@ pub all-turn : (g offsets starts : List ℕ) (r : ℕ) (next : List ℕ) → All
     → AllLocated g offsets next (r + 1)
 all-turn g offsets starts r next w h v =
     record {
-        good = w .good;
-        offsetsIs = w .offsetsIs;
-        inside = omega arith;
-        size = v .size;
-        located = λ q l.
-            ⊎-elim
-            (λ b k s.
-                v .stays (64 * q + target g q k) (omega (arith, target-fits g (accepted g (w .good)) q (omega (arith, w .inside)) k s))
-                ∙ w .located q b k s)
-            (λ b. subst⁻¹ (λ (x : ℕ). HasRule g next x) b (v .here)) (below-suc q r (omega arith))
+      good = w .good;
+      offsetsIs = w .offsetsIs;
+      inside = omega arith;
+      size = v .size;
+      located = λ q l.
+          ⊎-elim
+          (λ b k s.
+          v .stays (64 * q + target g q k) (omega (arith, target-fits g (accepted g (w .good)) q (omega (arith, w .inside)) k s))
+          ∙ w .located q b k s)
+          (λ b. subst⁻¹ (λ (x : ℕ). HasRule g next x) b (v .here)) (below-suc q r (omega arith));
     }
 
 pub all-finish : (g offsets starts : List ℕ) (r n : ℕ) → AllLocated g offsets starts r → n ≡ rules g → n ≤ r → Located g starts

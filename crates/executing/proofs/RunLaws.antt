@@ -38,7 +38,16 @@ use Rattle.runs.proofs.Moments.{before-total}
 use Rattle.runs.proofs.SequenceCounts.{rule-sound}
 use Rattle.runs.proofs.ValuesWritten.{values-length, function-for}
 use Rattle.runs.proofs.EverySoundPlan.{
-    given, run-done, run-stopped, run-machine, run-busy, top-node, top-goes-on, top-belongs, stack-once, stack-array
+  given,
+  run-done,
+  run-stopped,
+  run-machine,
+  run-busy,
+  top-node,
+  top-goes-on,
+  top-belongs,
+  stack-once,
+  stack-array,
 }
 use Rattle.executing.specs.Located.{Located}
 use Rattle.executing.specs.State.{stackOf, relative, placesOf, machineOf, written}
@@ -156,8 +165,12 @@ module _ {g p t starts : List ℕ} {entry : List ℤ} {stack marks places : List
 
   place-fits : place < 111
   place-fits =
-      omega (arith, place-is, top-goes-on g p t entry (k .good) (k .sound) (k .tree) count n rest top-is,
-      rule-sound (facts .table) (facts .sound) (ruleOf t n) (omega (arith, w .ruleIs, rule-known)) .fits)
+      omega (
+        arith,
+        place-is,
+        top-goes-on g p t entry (k .good) (k .sound) (k .tree) count n rest top-is,
+        rule-sound (facts .table) (facts .sound) (ruleOf t n) (omega (arith, w .ruleIs, rule-known)) .fits,
+      )
 
   -- after its action it is one further
   next-places : set (take (nodes t) held) n (suc (word (take (nodes t) held) n)) ≡ take (nodes t) (placesOf t stack marks (set places n (place + 1)) depth)
@@ -218,8 +231,12 @@ module _ {g p t starts : List ℕ} {entry : List ℤ} {stack marks places : List
 
     core-cell : action < 64 → cell t n action < length values
     core-cell h =
-        omega (arith, cell-inside (facts .table) (facts .tree) n action inside applies (defining-occurs g (ruleOf t n) action (defines h)),
-        facts .tree .valuesFit, values-kept)
+        omega (
+          arith,
+          cell-inside (facts .table) (facts .tree) n action inside applies (defining-occurs g (ruleOf t n) action (defines h)),
+          facts .tree .valuesFit,
+          values-kept,
+        )
 
     -- "A compute writes one value"
     core-compute : action < 64 → {f : ℕ} → f ≡ word starts (64 * r + action) → {after : List ℤ} → after ≡ written g t values n action f → count < budget
@@ -227,17 +244,17 @@ module _ {g p t starts : List ℕ} {entry : List ℤ} {stack marks places : List
     unfolding machineOf written act computed
     core-compute h {f} e q more =
         record {
-            checked = k;
-            stackSize = w .stackSize;
-            marksSize = w .marksSize;
-            placesSize = w .placesSize;
-            ruleIs = w .ruleIs;
-            high = w .high;
-            machineIs =
-                same-machine refl refl
-                (q ∙ ap (set values (cell t n action)) (by-number g t values n (functionFor g (ruleOf t n) action) f (function-is h e)))
-                ∙ next (compute action) (decode-compute action h);
-            allowed = omega arith
+          checked = k;
+          stackSize = w .stackSize;
+          marksSize = w .marksSize;
+          placesSize = w .placesSize;
+          ruleIs = w .ruleIs;
+          high = w .high;
+          machineIs =
+              same-machine refl refl
+              (q ∙ ap (set values (cell t n action)) (by-number g t values n (functionFor g (ruleOf t n) action) f (function-is h e)))
+              ∙ next (compute action) (decode-compute action h);
+          allowed = omega arith;
         }
 
     -- "a visit pushes the child, which resumes after its last leave"
@@ -249,28 +266,35 @@ module _ {g p t starts : List ℕ} {entry : List ℤ} {stack marks places : List
         let room : depth < length stack = omega (arith, shallow, w .stackSize) in
         let room′ : depth < length marks = omega (arith, shallow, w .marksSize) in
         record {
-            checked = k;
-            stackSize = length-set stack depth n ∙ w .stackSize;
-            marksSize = length-set marks depth q ∙ w .marksSize;
-            placesSize = w .placesSize;
-            ruleIs = f;
-            high = λ j b.
-                ⊎-elim
-                (λ s.
-                    let d : j ≡ depth → ⊥ = λ z. omega arith in
-                    omega (arith, w .high j s, ap (ruleOf t) (getD-set-other stack depth j n 0 d), getD-set-other marks depth j q 0 d))
-                (λ s.
-                    omega (arith, i, w .ruleIs, ap (λ (x : ℕ). ruleOf t (word (set stack depth n) x)) s, ap (ruleOf t) (getD-set-same stack depth n 0 room),
-                    ap (word (set marks depth q)) s, getD-set-same marks depth q 0 room′))
-                (below-suc j depth (omega arith));
-            machineIs =
-                same-machine (ap₂ (λ (x : ℕ) (s : List ℕ). x ∷ s) e (stack-push stack depth n room))
-                (ap (take (nodes t))
-                (ap (λ (s : List ℕ). placesOf t (set stack depth n) (set marks depth q) s (depth + 1)) (set-getD places c 0)
-                ∙ places-push t stack marks places n q (place + 1) depth room room′ (omega (arith, i, w .ruleIs))))
-                refl
-                ∙ next (visit ((action - 64) / 8) (action % 8 + 1)) (decode-visit action h l);
-            allowed = omega arith
+          checked = k;
+          stackSize = length-set stack depth n ∙ w .stackSize;
+          marksSize = length-set marks depth q ∙ w .marksSize;
+          placesSize = w .placesSize;
+          ruleIs = f;
+          high = λ j b.
+              ⊎-elim
+              (λ s.
+              let d : j ≡ depth → ⊥ = λ z. omega arith in
+              omega (arith, w .high j s, ap (ruleOf t) (getD-set-other stack depth j n 0 d), getD-set-other marks depth j q 0 d))
+              (λ s.
+              omega (
+                arith,
+                i,
+                w .ruleIs,
+                ap (λ (x : ℕ). ruleOf t (word (set stack depth n) x)) s,
+                ap (ruleOf t) (getD-set-same stack depth n 0 room),
+                ap (word (set marks depth q)) s,
+                getD-set-same marks depth q 0 room′,
+              ))
+              (below-suc j depth (omega arith));
+          machineIs =
+              same-machine (ap₂ (λ (x : ℕ) (s : List ℕ). x ∷ s) e (stack-push stack depth n room))
+              (ap (take (nodes t))
+              (ap (λ (s : List ℕ). placesOf t (set stack depth n) (set marks depth q) s (depth + 1)) (set-getD places c 0)
+              ∙ places-push t stack marks places n q (place + 1) depth room room′ (omega (arith, i, w .ruleIs))))
+              refl
+              ∙ next (visit ((action - 64) / 8) (action % 8 + 1)) (decode-visit action h l);
+          allowed = omega arith;
         }
 
     left-machine : 128 ≤ action
@@ -286,17 +310,17 @@ module _ {g p t starts : List ℕ} {entry : List ℤ} {stack marks places : List
     unfolding machineOf stackOf placesOf
     core-leave h {d} {m} {q} {v} e a b s f more =
         record {
-            checked = k;
-            stackSize = w .stackSize;
-            marksSize = w .marksSize;
-            placesSize = length-set places n v ∙ w .placesSize;
-            ruleIs = f;
-            high = λ i l. w .high i (omega arith);
-            machineIs =
-                ap₂ (λ (x y : ℕ). machineOf t stack marks d (set places n v) x (relative t x y) values) a b
-                ∙ (ap (λ (y : ℕ). machineOf t stack marks d (set places n y) (word stack d) (relative t (word stack d) (word marks d)) values) s
-                ∙ (ap (λ (x : ℕ). popped x) (sym e) ∙ left-machine h));
-            allowed = omega arith
+          checked = k;
+          stackSize = w .stackSize;
+          marksSize = w .marksSize;
+          placesSize = length-set places n v ∙ w .placesSize;
+          ruleIs = f;
+          high = λ i l. w .high i (omega arith);
+          machineIs =
+              ap₂ (λ (x y : ℕ). machineOf t stack marks d (set places n v) x (relative t x y) values) a b
+              ∙ (ap (λ (y : ℕ). machineOf t stack marks d (set places n y) (word stack d) (relative t (word stack d) (word marks d)) values) s
+              ∙ (ap (λ (x : ℕ). popped x) (sym e) ∙ left-machine h));
+          allowed = omega arith;
         }
       where
         popped : ℕ → Machine
@@ -308,8 +332,8 @@ module _ {g p t starts : List ℕ} {entry : List ℤ} {stack marks places : List
     core-ended h e =
         ⊎-elim
         (λ l.
-            let b = run-busy g p t entry (k .good) (k .sound) (k .tree) (count + 1) l in
-            absurd (no-empty (b .2) (ap (λ (m : Machine). m .stack) (sym (left-machine h)) ∙ ap (stackOf stack) e)))
+        let b = run-busy g p t entry (k .good) (k .sound) (k .tree) (count + 1) l in
+        absurd (no-empty (b .2) (ap (λ (m : Machine). m .stack) (sym (left-machine h)) ∙ ap (stackOf stack) e)))
         (λ l. omega (arith, goes-on)) (below-or-not (count + 1) (total p t))
 
     core-done : 128 ≤ action → depth ≡ 0 → count < budget → R.the-variants.Done (count + 1) ≡ ran g p t entry budget .answer
@@ -365,14 +389,14 @@ running : {g p t starts : List ℕ} {entry : List ℤ} {stack marks places : Lis
     → Running g p t starts entry stack marks places depth n r place values count budget
 running w =
     record {
-        core = w;
-        nodesFit = facts w .tree .nodesFit;
-        node = inside w;
-        rule = omega (arith, rule-known w, facts w .table .rulesFit);
-        planned = omega (arith, rule-known w, w .checked .planned);
-        low = shallow w;
-        placeFits = place-fits w;
-        valuesSize = values-kept w
+      core = w;
+      nodesFit = facts w .tree .nodesFit;
+      node = inside w;
+      rule = omega (arith, rule-known w, facts w .table .rulesFit);
+      planned = omega (arith, rule-known w, w .checked .planned);
+      low = shallow w;
+      placeFits = place-fits w;
+      valuesSize = values-kept w;
     }
 
 -- The loop's invariant: what is left of the budget says how many actions are done, and the plan's word says the place.
@@ -391,26 +415,26 @@ left-start {g} {p} {t} {starts} {entry} k e budget =
     let zeros : List ℕ = replicate 1024 0 in
     let none : 0 ≡ budget - budget = omega arith in
     record {
-        most = omega arith;
-        place = 0;
-        atIs = omega arith;
-        runs =
-            running
-            (record {
-                checked = k;
-                stackSize = length-replicate {A = ℕ} 1024 0;
-                marksSize = length-replicate {A = ℕ} 1024 0;
-                placesSize = length-replicate {A = ℕ} 1024 0;
-                ruleIs = e;
-                high = λ i l. absurd (omega arith);
-                machineIs =
-                    same-machine refl
-                    (ap (take (nodes t)) (ap (set zeros 0) (sym (all-zero 1024 0)) ∙ set-getD zeros 0 0)
-                    ∙ take-replicate (nodes t) 1024 (facts-of k .tree .nodesFit))
-                    refl
-                    ∙ ap (machineAt g p t entry) none;
-                allowed = omega arith
-            })
+      most = omega arith;
+      place = 0;
+      atIs = omega arith;
+      runs =
+          running
+          (record {
+            checked = k;
+            stackSize = length-replicate {A = ℕ} 1024 0;
+            marksSize = length-replicate {A = ℕ} 1024 0;
+            placesSize = length-replicate {A = ℕ} 1024 0;
+            ruleIs = e;
+            high = λ i l. absurd (omega arith);
+            machineIs =
+                same-machine refl
+                (ap (take (nodes t)) (ap (set zeros 0) (sym (all-zero 1024 0)) ∙ set-getD zeros 0 0)
+                ∙ take-replicate (nodes t) 1024 (facts-of k .tree .nodesFit))
+                refl
+                ∙ ap (machineAt g p t entry) none;
+            allowed = omega arith;
+          });
     }
 
 module _ {g p t starts : List ℕ} {entry : List ℤ} {stack marks places : List ℕ} {depth n r at : ℕ} {values : List ℤ} {left budget : ℕ}
@@ -453,38 +477,38 @@ module _ {g p t starts : List ℕ} {entry : List ℤ} {stack marks places : List
         → Left g p t starts entry stack marks places depth n r (at + 1) after (left - 1) budget
     turn-compute h e {after} q =
         record {
-            most = omega (arith, w .most);
-            place = w .place + 1;
-            atIs = omega (arith, w .atIs);
-            runs =
-                subst (λ (k : ℕ). Running g p t starts entry stack marks places depth n r (w .place + 1) after k budget) count
-                (running (core-compute top is-action h e q spent))
+          most = omega (arith, w .most);
+          place = w .place + 1;
+          atIs = omega (arith, w .atIs);
+          runs =
+              subst (λ (k : ℕ). Running g p t starts entry stack marks places depth n r (w .place + 1) after k budget) count
+              (running (core-compute top is-action h e q spent));
         }
 
     pub turn-visit : 64 ≤ action → action < 128 → {c r′ x : ℕ} → c ≡ child t n ((action - 64) / 8) → r′ ≡ ruleOf t c → x ≡ word places c
         → Left g p t starts entry (set stack depth n) (set marks depth (at + 1)) places (depth + 1) c r′ (257 + 112 * r′ + x) values (left - 1) budget
     turn-visit h l {c} {r′} e f s =
         record {
-            most = omega (arith, w .most);
-            place = word places c;
-            atIs = omega arith;
-            runs =
-                subst
-                (λ (k : ℕ). Running g p t starts entry (set stack depth n) (set marks depth (at + 1)) places (depth + 1) c r′ (word places c) values k budget)
-                count (running (core-visit top is-action h l e f (omega (arith, w .atIs)) spent))
+          most = omega (arith, w .most);
+          place = word places c;
+          atIs = omega arith;
+          runs =
+              subst
+              (λ (k : ℕ). Running g p t starts entry (set stack depth n) (set marks depth (at + 1)) places (depth + 1) c r′ (word places c) values k budget)
+              count (running (core-visit top is-action h l e f (omega (arith, w .atIs)) spent));
         }
 
     pub turn-leave : 128 ≤ action → (depth ≡ 0 → ⊥) → {m r′ q : ℕ} → m ≡ word stack (depth - 1) → q ≡ word marks (depth - 1) → r′ ≡ ruleOf t m
         → Left g p t starts entry stack marks (set places n (at - (256 + 112 * r))) (depth - 1) m r′ q values (left - 1) budget
     turn-leave h d {m} {r′} {q} a b f =
         record {
-            most = omega (arith, w .most);
-            place = relative t m q;
-            atIs = omega (arith, f, top .high (depth - 1) (omega arith), ap (ruleOf t) a, b);
-            runs =
-                subst
-                (λ (k : ℕ). Running g p t starts entry stack marks (set places n (at - (256 + 112 * r))) (depth - 1) m r′ (relative t m q) values k budget)
-                count (running (core-leave top is-action h (omega arith) a b (omega (arith, w .atIs)) f spent))
+          most = omega (arith, w .most);
+          place = relative t m q;
+          atIs = omega (arith, f, top .high (depth - 1) (omega arith), ap (ruleOf t) a, b);
+          runs =
+              subst
+              (λ (k : ℕ). Running g p t starts entry stack marks (set places n (at - (256 + 112 * r))) (depth - 1) m r′ (relative t m q) values k budget)
+              count (running (core-leave top is-action h (omega arith) a b (omega (arith, w .atIs)) f spent));
         }
 
     -- the last leave

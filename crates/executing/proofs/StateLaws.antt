@@ -69,8 +69,8 @@ uncovered t stack marks xs n v (suc depth) h =
     ⊎-elim
     (λ e. absurd (omega (arith, h, ap (λ (x : ℕ). times n (x ∷ stackOf stack depth)) e, times-same n (stackOf stack depth))))
     (λ d.
-        ap (λ (s : List ℕ). placesOf t stack marks s depth) (set-comm xs n m v q d)
-        ∙ uncovered t stack marks (set xs m q) n v depth (sym (times-other n m (stackOf stack depth) d) ∙ h))
+    ap (λ (s : List ℕ). placesOf t stack marks s depth) (set-comm xs n m v q d)
+    ∙ uncovered t stack marks (set xs m q) n v depth (sym (times-other n m (stackOf stack depth) d) ∙ h))
     (same-or-not n m)
 
 -- what is written above the depth says nothing of the places

@@ -29,9 +29,9 @@ placesOf t stack marks places (suc depth) =
 unfoldable pub machineOf : List ℕ → List ℕ → List ℕ → ℕ → List ℕ → ℕ → ℕ → List ℤ → Machine
 machineOf t stack marks depth places n place values =
     record {
-        stack = n ∷ stackOf stack depth;
-        places = take (nodes t) (placesOf t stack marks (set places n place) depth);
-        values = values
+      stack = n ∷ stackOf stack depth;
+      places = take (nodes t) (placesOf t stack marks (set places n place) depth);
+      values = values;
     }
 
 -- the values with that of occurrence o at node n, whose function starts at word f

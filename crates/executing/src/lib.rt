@@ -115,7 +115,14 @@ pub fn execute(
         left -= 1;
         let action = wide(plan[at]);
         if action < 64 {
-            compute(words, wide(starts[64 * r + action]), tree, values, n, action);
+            compute(
+                words,
+                wide(starts[64 * r + action]),
+                tree,
+                values,
+                n,
+                action,
+            );
             at += 1;
             continue;
         }

@@ -35,8 +35,13 @@ module _ (g rows plan : List ℕ) (planned : P.Planned) (rows′ plan′ : List 
   plan-told : (s n a b c : ℕ) → Tells (planning g rows plan) s n a b c → PlanAnswered g rows plan s n a b c rows′ plan′
   plan-told s n a b c t =
       record {
-          status = t .status; count = t .count; number = t .number; place = t .place; second = t .second;
-          rowsAre = w .rowsAre; planIs = w .planIs
+        status = t .status;
+        count = t .count;
+        number = t .number;
+        place = t .place;
+        second = t .second;
+        rowsAre = w .rowsAre;
+        planIs = w .planIs;
       }
 
   pub plan-accepted : (n : ℕ) → planned ≡ P.the-variants.Accepted n → PlanAnswered g rows plan 0 n 0 0 0 rows′ plan′
@@ -52,8 +57,14 @@ module _ (g rows plan t : List ℕ) (vs : List ℤ) (budget : ℕ) (report : Rep
   run-told : (s n a b c : ℕ) → Tells (running g rows plan t vs budget) s n a b c → RunAnswered g rows plan t vs budget s n a b c vs′ rows′ plan′
   run-told s n a b c t =
       record {
-          status = t .status; count = t .count; number = t .number; place = t .place; second = t .second;
-          valuesAre = w .valuesAre; rowsAre = w .rowsAre; planIs = w .planIs
+        status = t .status;
+        count = t .count;
+        number = t .number;
+        place = t .place;
+        second = t .second;
+        valuesAre = w .valuesAre;
+        rowsAre = w .rowsAre;
+        planIs = w .planIs;
       }
 
   pub run-done : (n : ℕ) → report .ran ≡ R.the-variants.Done n → RunAnswered g rows plan t vs budget 0 n 0 0 0 vs′ rows′ plan′

@@ -2,14 +2,15 @@
 use plans::Planned;
 use refusals::Refusal;
 use runs::Ran;
-
 ghost use mathlib.Core.Path.{_≡_};
 ghost use Rattle.refusals.specs.Numbers.{numberOf, placeOf, secondOf};
 ghost use Rattle.exports.specs.Answered as answered;
 
 // Accepted or done; stopped by the budget; refused.
 const DONE: u32 = 0;
+
 const STOPPED: u32 = 1;
+
 const REFUSED: u32 = 2;
 
 // Tells a refusal's number and places.
@@ -27,7 +28,15 @@ fn refuse(refusal: Refusal, number: &mut u64, place: &mut u64, second: &mut u64)
 
 // Plans a grammar, as `planner::plan`.
 #[no_mangle]
-pub extern "C" fn skarnuth_plan(words: &[u16], rows: &mut [u64], plan: &mut [u16], count: &mut u64, number: &mut u64, place: &mut u64, second: &mut u64) -> u32
+pub extern "C" fn skarnuth_plan(
+    words: &[u16],
+    rows: &mut [u64],
+    plan: &mut [u16],
+    count: &mut u64,
+    number: &mut u64,
+    place: &mut u64,
+    second: &mut u64,
+) -> u32
     ensures { λ r. ⌜ answered.PlanAnswered (now (words .entry)) (now (rows .entry)) (now (plan .entry)) r (now (count .exit)) (now (number .exit)) (now (place .exit)) (now (second .exit)) (now (rows .exit)) (now (plan .exit)) ⌝ }
 {
     let planned = planner::plan(words, rows, plan);
@@ -46,7 +55,18 @@ pub extern "C" fn skarnuth_plan(words: &[u16], rows: &mut [u64], plan: &mut [u16
 
 // Plans, checks and runs, as `runner::run`.
 #[no_mangle]
-pub extern "C" fn skarnuth_run(words: &[u16], rows: &mut [u64], plan: &mut [u16], tree: &[u16], values: &mut [i32], budget: u32, count: &mut u64, number: &mut u64, place: &mut u64, second: &mut u64) -> u32
+pub extern "C" fn skarnuth_run(
+    words: &[u16],
+    rows: &mut [u64],
+    plan: &mut [u16],
+    tree: &[u16],
+    values: &mut [i32],
+    budget: u32,
+    count: &mut u64,
+    number: &mut u64,
+    place: &mut u64,
+    second: &mut u64,
+) -> u32
     ensures { λ r. ⌜ answered.RunAnswered (now (words .entry)) (now (rows .entry)) (now (plan .entry)) (now (tree .entry)) (now (values .entry)) budget r (now (count .exit)) (now (number .exit)) (now (place .exit)) (now (second .exit)) (now (values .exit)) (now (rows .exit)) (now (plan .exit)) ⌝ }
 {
     let report = runner::run(words, rows, plan, tree, values, budget);

@@ -82,12 +82,12 @@ module _ (g : List ℕ) (good : readTable g ≡ Good) where
       let w : Numbered g (idsOf g) x (k / 8) = numbered g (idsOf g) x (k / 8) small (let z = m .2 in omega arith) in
       EDP.higher i x (k / 8) (k % 8)
       (record {
-          stands = standing g good r i h l;
-          nonterminalThere = w .symbolIs;
-          firstFits = m .0;
-          secondFits = m .1;
-          firstIs = e;
-          secondIs = f
+        stands = standing g good r i h l;
+        nonterminalThere = w .symbolIs;
+        firstFits = m .0;
+        secondFits = m .1;
+        firstIs = e;
+        secondIs = f;
       }) (m .2)
 
   down-edp : (r a b : ℕ) → r < rules g → Down g r a b → EDP g (setNumber (numbers g)) r a b
@@ -134,28 +134,29 @@ module _ (g : List ℕ) (good : readTable g ≡ Good) where
     unfolding idpPaths
     idp-leads r a b h p =
         let la : a < 64 = occurs-below g formed r a (counts g good r h) (idp-path-from g formed (counts g good r h) p) in
-        let lb : b < 64 = occurs-below g formed r b (counts g good r h) (idp-path-to g formed (counts g good r h) p) in
-        (la,
-        subst⁻¹ (λ (s : List ℕ). T (leads s (64 * r) a b)) e
-        (subst⁻¹ (λ (c : Bool). T c) (over-leads g (idpPaths g (idsOf g)) entry r a b h la lb)
-        (idp-path-exact g good r a b (counts g good r h) .1 p)))
+        let lb : b < 64 = occurs-below g formed r b (counts g good r h) (idp-path-to g formed (counts g good r h) p) in (
+          la,
+          subst⁻¹ (λ (s : List ℕ). T (leads s (64 * r) a b)) e
+              (subst⁻¹ (λ (c : Bool). T c) (over-leads g (idpPaths g (idsOf g)) entry r a b h la lb)
+              (idp-path-exact g good r a b (counts g good r h) .1 p)),
+        )
 
     pub extending-start : Extending g entry 0 entry
     extending-start =
         record {
-            bound = omega arith;
-            holds = record {
-                room = room;
-                kept = λ r h. record {
-                    room = omega arith;
-                    closed = λ o m x ho hm s t. idp-leads r o x h (idp-trans g r o m x (leads-idp r o m h ho s) (leads-idp r m x h hm t)) .1;
-                    from = λ o x ho t. occurs-among g good r o h (idp-path-from g formed (counts g good r h) (leads-idp r o x h ho t));
-                    to = λ o x ho t. occurs-among g good r x h (idp-path-to g formed (counts g good r h) (leads-idp r o x h ho t))
-                };
-                has = λ r a b h d. ⊎-elim (λ p. idp-leads r a b h p) (λ p. absurd (let z = p .0 in omega arith)) d;
-                within = λ r o x h l t. idp-upper r o x (leads-idp r o x h l t)
+          bound = omega arith;
+          holds = record {
+            room = room;
+            kept = λ r h. record {
+              room = omega arith;
+              closed = λ o m x ho hm s t. idp-leads r o x h (idp-trans g r o m x (leads-idp r o m h ho s) (leads-idp r m x h hm t)) .1;
+              from = λ o x ho t. occurs-among g good r o h (idp-path-from g formed (counts g good r h) (leads-idp r o x h ho t));
+              to = λ o x ho t. occurs-among g good r x h (idp-path-to g formed (counts g good r h) (leads-idp r o x h ho t));
             };
-            frame = frame-none g entry
+            has = λ r a b h d. ⊎-elim (λ p. idp-leads r a b h p) (λ p. absurd (let z = p .0 in omega arith)) d;
+            within = λ r o x h l t. idp-upper r o x (leads-idp r o x h l t);
+          };
+          frame = frame-none g entry;
         }
 
   -- one rule more
@@ -164,20 +165,20 @@ module _ (g : List ℕ) (good : readTable g ≡ Good) where
       → Extending g entry (n + 1) after
   extending-turn entry rows n p among arcs s after w h e a o q u =
       let v : Closes rows (64 * n) (occurrencesOf g n) (Down g n) after =
-              closes-at g rows after n p among (λ q. SpreadArc g q (orderOf g (numbers g)) (lengthAt g q + 1)) e a
-              (subst (λ (l : List ℕ). Closes rows (64 * n) among (SpreadArc g p l (lengthAt g p + 1)) after) (o ∙ ap (orderOf g) q) u) in
+      closes-at g rows after n p among (λ q. SpreadArc g q (orderOf g (numbers g)) (lengthAt g q + 1)) e a
+      (subst (λ (l : List ℕ). Closes rows (64 * n) among (SpreadArc g p l (lengthAt g p + 1)) after) (o ∙ ap (orderOf g) q) u) in
       record {
-          bound = omega arith;
-          holds =
-              holds-turn g (Lower g n) (Lower g (n + 1)) (Upper g) (λ r c d f x y. path-join x y) rows after n (Down g n) (w .holds) h v
-              (λ c d t. Path⁺.one (down-edp n c d h t))
-              (λ r c d l t.
-                  ⊎-elim (λ p. inl (inl p))
-                  (λ p.
-                      ⊎-elim (λ m. inl (inr (m, p .1)))
-                      (λ m. let z : Down g n c d = subst (λ (k : ℕ). Down g k c d) m (p .1) in inr (m, down-small n c d h z, z))
-                      (below-suc r n (let k = p .0 in omega arith))) t);
-          frame = frame-then g entry rows after (w .frame) (frame-turn g rows after n (occurrencesOf g n) _ h v)
+        bound = omega arith;
+        holds =
+            holds-turn g (Lower g n) (Lower g (n + 1)) (Upper g) (λ r c d f x y. path-join x y) rows after n (Down g n) (w .holds) h v
+            (λ c d t. Path⁺.one (down-edp n c d h t))
+            (λ r c d l t.
+            ⊎-elim (λ p. inl (inl p))
+            (λ p.
+            ⊎-elim (λ m. inl (inr (m, p .1)))
+            (λ m. let z : Down g n c d = subst (λ (k : ℕ). Down g k c d) m (p .1) in inr (m, down-small n c d h z, z))
+            (below-suc r n (let k = p .0 in omega arith))) t);
+        frame = frame-then g entry rows after (w .frame) (frame-turn g rows after n (occurrencesOf g n) _ h v);
       }
 
   -- every arc of EDP is there in the end
@@ -190,16 +191,16 @@ module _ (g : List ℕ) (good : readTable g ≡ Good) where
       let ka : a ≡ (8 * a + b) / 8 = omega arith in
       let kb : b ≡ (8 * a + b) % 8 = omega arith in
       record {
-          place = i;
-          placeFits = (let z = w .stands .inside in omega arith);
-          arc = record {
-              number = 8 * a + b;
-              member =
-                  subst⁻¹ (λ (y : ℕ). T (hasb (8 * a + b) (word (orderOf g (numbers g)) y))) (symbol-same g r i ∙ w .stands .symbolIs)
-                  (descent-has g good (numbers g) x fx a b (w .firstFits) (w .secondFits) l);
-              start = w .firstIs ∙ ap (λ (c : ℕ). 8 * i + c) ka;
-              end = w .secondIs ∙ ap (λ (c : ℕ). 8 * i + c) kb
-          }
+        place = i;
+        placeFits = (let z = w .stands .inside in omega arith);
+        arc = record {
+          number = 8 * a + b;
+          member =
+              subst⁻¹ (λ (y : ℕ). T (hasb (8 * a + b) (word (orderOf g (numbers g)) y))) (symbol-same g r i ∙ w .stands .symbolIs)
+              (descent-has g good (numbers g) x fx a b (w .firstFits) (w .secondFits) l);
+          start = w .firstIs ∙ ap (λ (c : ℕ). 8 * i + c) ka;
+          end = w .secondIs ∙ ap (λ (c : ℕ). 8 * i + c) kb;
+        };
       }
 
   edp-lower : (r a b : ℕ) → r < rules g → EDP g (setNumber (numbers g)) r a b → Lower g (rules g) r a b

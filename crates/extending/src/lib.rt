@@ -69,6 +69,13 @@ pub fn extend(words: &[u16], offsets: &Offsets, sets: &[u16; SET_WORDS], rows: &
     let count = access::word(words, 1);
     for r in 0..count {
         let p = inducing::rule_at(offsets, r);
-        inducing::spread(words, p, rows, 64 * r, access::occurrence_set(words, p), &arcs);
+        inducing::spread(
+            words,
+            p,
+            rows,
+            64 * r,
+            access::occurrence_set(words, p),
+            &arcs,
+        );
     }
 }

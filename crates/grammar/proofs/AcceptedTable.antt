@@ -11,21 +11,73 @@ use lib.ListN.{length}
 use Rattle.basics.specs.Tests.{_and_, _or_, _implies_}
 use Rattle.basics.specs.Lists.{word}
 use Rattle.basics.proofs.TestLaws.{
-    and-left, and-right, or-cases, some-at, some-find, all-at, implies-use, eq-T, T-true, true-T, below-or-not
+  and-left,
+  and-right,
+  or-cases,
+  some-at,
+  some-find,
+  all-at,
+  implies-use,
+  eq-T,
+  T-true,
+  true-T,
+  below-or-not,
 }
 use Rattle.refusals.specs.declared.Refusal.the-variants.{EndsEarly, OutOfRange, WrongClass, Undefined, LeftOver}
 use Rattle.grammar.specs.declared.Verdict.the-variants.{Good}
 use Rattle.grammar.specs.Limits.{
-    mostSymbols, mostRules, mostAttributes, longestRight, mostFunctions, lastOperation, mostOccurrences
+  mostSymbols,
+  mostRules,
+  mostAttributes,
+  longestRight,
+  mostFunctions,
+  lastOperation,
+  mostOccurrences,
 }
 use Rattle.grammar.specs.Table.{
-    symbols, rules, start, symbolAt, kind, attributes, mask, nonterminal, argumentWords, isConstant, lengthAt, functionsAt, functionAt,
-    functionOf, functions, ruleAt, rightLength, symbolOf, arguments, target, operation, argument, occurrence, defining, position
+  symbols,
+  rules,
+  start,
+  symbolAt,
+  kind,
+  attributes,
+  mask,
+  nonterminal,
+  argumentWords,
+  isConstant,
+  lengthAt,
+  functionsAt,
+  functionAt,
+  functionOf,
+  functions,
+  ruleAt,
+  rightLength,
+  symbolOf,
+  arguments,
+  target,
+  operation,
+  argument,
+  occurrence,
+  defining,
+  position,
 }
 use Rattle.grammar.specs.Verdicts.{_then_, unless, each}
 use Rattle.grammar.specs.Reading.{
-    present, ranged, header, symbolFault, startClass, leftFault, definedBelow, argumentFault, functionFault, bodyFault, complete,
-    ruleBefore, ruleFault, leftOver, readTable
+  present,
+  ranged,
+  header,
+  symbolFault,
+  startClass,
+  leftFault,
+  definedBelow,
+  argumentFault,
+  functionFault,
+  bodyFault,
+  complete,
+  ruleBefore,
+  ruleFault,
+  leftOver,
+  readTable,
 }
 use Rattle.grammar.specs.WellFormed.{SymbolFormed, RuleFormed, FunctionFormed, WellFormed}
 use Rattle.grammar.proofs.VerdictLaws.{then-first, then-second, unless-passes, each-at}
@@ -47,16 +99,18 @@ module _ (g : List ℕ) where
   pub header-symbols : header g ≡ Good → (1 ≤ symbols g) × (symbols g ≤ mostSymbols)
   unfolding header
   header-symbols e =
-      let t = ranged-passes 0 (leb 1 (symbols g) and leb (symbols g) mostSymbols) (then-first _ _ e) in
-      (leb→le 1 (symbols g) (and-left (leb 1 (symbols g)) (leb (symbols g) mostSymbols) t),
-      leb→le (symbols g) mostSymbols (and-right (leb 1 (symbols g)) (leb (symbols g) mostSymbols) t))
+      let t = ranged-passes 0 (leb 1 (symbols g) and leb (symbols g) mostSymbols) (then-first _ _ e) in (
+        leb→le 1 (symbols g) (and-left (leb 1 (symbols g)) (leb (symbols g) mostSymbols) t),
+        leb→le (symbols g) mostSymbols (and-right (leb 1 (symbols g)) (leb (symbols g) mostSymbols) t),
+      )
 
   pub header-rules : header g ≡ Good → (1 ≤ rules g) × (rules g ≤ mostRules)
   unfolding header
   header-rules e =
-      let t = ranged-passes 1 (leb 1 (rules g) and leb (rules g) mostRules) (then-first _ _ (then-second _ _ e)) in
-      (leb→le 1 (rules g) (and-left (leb 1 (rules g)) (leb (rules g) mostRules) t),
-      leb→le (rules g) mostRules (and-right (leb 1 (rules g)) (leb (rules g) mostRules) t))
+      let t = ranged-passes 1 (leb 1 (rules g) and leb (rules g) mostRules) (then-first _ _ (then-second _ _ e)) in (
+        leb→le 1 (rules g) (and-left (leb 1 (rules g)) (leb (rules g) mostRules) t),
+        leb→le (rules g) mostRules (and-right (leb 1 (rules g)) (leb (rules g) mostRules) t),
+      )
 
   pub header-start : header g ≡ Good → start g < symbols g
   unfolding header
@@ -70,28 +124,29 @@ module _ (g : List ℕ) where
       let e₁ = then-second _ _ e in
       let e₂ = then-second _ _ e₁ in
       record {
-          kindFits = leb→le (kind g x) 1 (ranged-passes (symbolAt x) (leb (kind g x) 1) (then-first _ _ e));
-          attributesFit =
-              leb→le (attributes g x) mostAttributes
-              (ranged-passes (symbolAt x + 1) (leb (attributes g x) mostAttributes) (then-first _ _ e₁));
-          maskFits =
-              ltb→lt (mask g x) (2 ^ attributes g x)
-              (ranged-passes (symbolAt x + 2) (ltb (mask g x) (2 ^ attributes g x)) (then-first _ _ e₂));
-          terminalMask = λ k.
-              ⊎-elim (λ t. absurd (let z : kind g x ≡ 0 = eqb→eq (kind g x) 0 t in omega arith))
-              (λ t. eqb→eq (mask g x) 0 t)
-              (or-cases (nonterminal g x) (eqb (mask g x) 0)
-              (unless-passes (nonterminal g x or eqb (mask g x) 0) (WrongClass (symbolAt x + 2)) (then-second _ _ e₂)))
+        kindFits = leb→le (kind g x) 1 (ranged-passes (symbolAt x) (leb (kind g x) 1) (then-first _ _ e));
+        attributesFit =
+            leb→le (attributes g x) mostAttributes
+            (ranged-passes (symbolAt x + 1) (leb (attributes g x) mostAttributes) (then-first _ _ e₁));
+        maskFits =
+            ltb→lt (mask g x) (2 ^ attributes g x)
+            (ranged-passes (symbolAt x + 2) (ltb (mask g x) (2 ^ attributes g x)) (then-first _ _ e₂));
+        terminalMask = λ k.
+            ⊎-elim (λ t. absurd (let z : kind g x ≡ 0 = eqb→eq (kind g x) 0 t in omega arith))
+            (λ t. eqb→eq (mask g x) 0 t)
+            (or-cases (nonterminal g x) (eqb (mask g x) 0)
+            (unless-passes (nonterminal g x or eqb (mask g x) 0) (WrongClass (symbolAt x + 2)) (then-second _ _ e₂)));
       }
 
   module _ (r : ℕ) where
     pub left-fits : leftFault g r ≡ Good → (word g (ruleAt g r) < symbols g) × (kind g (word g (ruleAt g r)) ≡ 0)
     unfolding leftFault
-    left-fits e =
-        (ltb→lt (word g (ruleAt g r)) (symbols g)
-        (ranged-passes (ruleAt g r) (ltb (word g (ruleAt g r)) (symbols g)) (then-first _ _ e)),
-        eqb→eq (kind g (word g (ruleAt g r))) 0
-        (unless-passes (nonterminal g (word g (ruleAt g r))) (WrongClass (ruleAt g r)) (then-second _ _ e)))
+    left-fits e = (
+      ltb→lt (word g (ruleAt g r)) (symbols g)
+          (ranged-passes (ruleAt g r) (ltb (word g (ruleAt g r)) (symbols g)) (then-first _ _ e)),
+      eqb→eq (kind g (word g (ruleAt g r))) 0
+          (unless-passes (nonterminal g (word g (ruleAt g r))) (WrongClass (ruleAt g r)) (then-second _ _ e)),
+    )
 
     rule-formed : ruleFault g r ≡ Good → RuleFormed g r
     unfolding ruleFault bodyFault symbolOf rightLength functions
@@ -102,15 +157,15 @@ module _ (g : List ℕ) where
         let b₁ = then-second _ _ b in
         let b₂ = then-second _ _ b₁ in
         record {
-            symbolsFit = go (l .0) (λ i h.
-                ltb→lt (word g (p + 2 + i)) (symbols g)
-                (ranged-passes (p + 2 + i) (ltb (word g (p + 2 + i)) (symbols g))
-                (each-at (lengthAt g p) (λ i. ranged g (p + 2 + i) (ltb (word g (p + 2 + i)) (symbols g))) (then-first _ _ b₁) i h)));
-            leftNonterminal = l .1;
-            lengthFits = leb→le (lengthAt g p) longestRight (ranged-passes (p + 1) (leb (lengthAt g p) longestRight) (then-first _ _ b));
-            functionsFit =
-                leb→le (functionsAt g p) mostFunctions
-                (ranged-passes (p + 2 + lengthAt g p) (leb (functionsAt g p) mostFunctions) (then-first _ _ b₂))
+          symbolsFit = go (l .0) (λ i h.
+              ltb→lt (word g (p + 2 + i)) (symbols g)
+              (ranged-passes (p + 2 + i) (ltb (word g (p + 2 + i)) (symbols g))
+              (each-at (lengthAt g p) (λ i. ranged g (p + 2 + i) (ltb (word g (p + 2 + i)) (symbols g))) (then-first _ _ b₁) i h)));
+          leftNonterminal = l .1;
+          lengthFits = leb→le (lengthAt g p) longestRight (ranged-passes (p + 1) (leb (lengthAt g p) longestRight) (then-first _ _ b));
+          functionsFit =
+              leb→le (functionsAt g p) mostFunctions
+              (ranged-passes (p + 2 + lengthAt g p) (leb (functionsAt g p) mostFunctions) (then-first _ _ b₂));
         }
       where
         go : word g (ruleAt g r) < symbols g → ((i : ℕ) → i < lengthAt g (ruleAt g r) → word g (ruleAt g r + 2 + i) < symbols g)
@@ -142,14 +197,14 @@ module _ (g : List ℕ) where
     function-formed k e =
         let t = unless-passes _ _ (then-first _ _ (then-second _ _ (then-second _ _ e))) in
         record {
-            targetDefining = and-left _ _ t;
-            targetOnce = λ j h i.
-                T-not (definedBelow g r k (target g r k)) (and-right _ _ t)
-                (some-at k (λ j. eqb (target g r j) (target g r k)) j h (eq-T _ _ i));
-            operationFits =
-                leb→le (operation g r k) lastOperation
-                (ranged-passes (functionOf g r k + 1) _ (then-first _ _ (then-second _ _ (then-second _ _ (then-second _ _ e)))));
-            argumentOccurs = λ j. occurs j (isConstant (operation g r k)) refl
+          targetDefining = and-left _ _ t;
+          targetOnce = λ j h i.
+              T-not (definedBelow g r k (target g r k)) (and-right _ _ t)
+              (some-at k (λ j. eqb (target g r j) (target g r k)) j h (eq-T _ _ i));
+          operationFits =
+              leb→le (operation g r k) lastOperation
+              (ranged-passes (functionOf g r k + 1) _ (then-first _ _ (then-second _ _ (then-second _ _ (then-second _ _ e)))));
+          argumentOccurs = λ j. occurs j (isConstant (operation g r k)) refl;
         }
       where
         occurs : (j : ℕ) (b : Bool) → isConstant (operation g r k) ≡ b → j < cond b 0 (argumentWords (operation g r k))
@@ -199,7 +254,7 @@ module _ (g : List ℕ) where
     unfolding complete definedBelow
     rule-complete e o d h =
         let w = some-find (functions g r) (λ k. eqb (target g r k) o)
-                (implies-use _ _ (all-at mostOccurrences (λ o. defining g r o implies definedBelow g r (functions g r) o) (true-T _ e) o h) d) in
+        (implies-use _ _ (all-at mostOccurrences (λ o. defining g r o implies definedBelow g r (functions g r) o) (true-T _ e) o h) d) in
         (w .0, w .1, eqb→eq _ _ (w .2))
 
   -- a defining occurrence is an occurrence
@@ -227,10 +282,10 @@ module _ (g : List ℕ) where
         ⊎-elim
         (λ l. T-true _ (unless-passes _ _ (then-first _ _ (then-second _ _ (rules-pass (suc r) l)))))
         (λ l.
-            let e : rules g ≡ suc r = omega arith in
-            T-true _ (unless-passes (complete g r) (Undefined (ruleAt g (suc r)))
-            (subst (λ (n : ℕ). ruleBefore g n ≡ Good) e
-            (then-first _ _ (then-second _ _ (then-second _ _ (then-second _ _ parts₁)))))))
+        let e : rules g ≡ suc r = omega arith in
+        T-true _ (unless-passes (complete g r) (Undefined (ruleAt g (suc r)))
+        (subst (λ (n : ℕ). ruleBefore g n ≡ Good) e
+        (then-first _ _ (then-second _ _ (then-second _ _ (then-second _ _ parts₁)))))))
         (below-or-not (suc r) (rules g))
 
     first-part : header g ≡ Good
@@ -241,8 +296,8 @@ module _ (g : List ℕ) where
     unfolding leftOver
     words-end h =
         let le : length g ≤ ruleAt g (rules g) =
-                leb→le _ _ (unless-passes (leb (length g) (ruleAt g (rules g))) (LeftOver (ruleAt g (rules g)))
-                (then-second _ _ (then-second _ _ (then-second _ _ (then-second _ _ parts₁))))) in
+        leb→le _ _ (unless-passes (leb (length g) (ruleAt g (rules g))) (LeftOver (ruleAt g (rules g)))
+        (then-second _ _ (then-second _ _ (then-second _ _ (then-second _ _ parts₁))))) in
         go (rules g) h rules-pass le
       where
         go : (n : ℕ) → 1 ≤ n → ((r : ℕ) → r < n → ruleFault g r ≡ Good) → length g ≤ ruleAt g n → length g ≡ ruleAt g n
@@ -255,16 +310,16 @@ module _ (g : List ℕ) where
     accepted =
         let c : T (nonterminal g (start g) and eqb (mask g (start g)) 0) = unless-passes _ _ (then-first _ _ (then-second _ _ parts₁)) in
         record {
-            someSymbols = header-symbols first-part .0;
-            symbolsFit = header-symbols first-part .1;
-            someRules = header-rules first-part .0;
-            rulesFit = header-rules first-part .1;
-            startFits = header-start first-part;
-            symbol = λ x h. symbol-formed x (each-at (symbols g) (λ x. symbolFault g x) (then-first _ _ parts₁) x h);
-            startNonterminal = eqb→eq (kind g (start g)) 0 (and-left _ _ c);
-            startMask = eqb→eq (mask g (start g)) 0 (and-right _ _ c);
-            rule = λ r h. rule-formed r (rules-pass r h);
-            function = λ r k h l. function-formed r k (functions-pass r (rules-pass r h) k l);
-            defined = λ r o h d. rule-complete r (all-complete r h) o d (occurrence-fits r o (rule-formed r (rules-pass r h)) (defining-occurs r o d));
-            ends = words-end (header-rules first-part .0)
+          someSymbols = header-symbols first-part .0;
+          symbolsFit = header-symbols first-part .1;
+          someRules = header-rules first-part .0;
+          rulesFit = header-rules first-part .1;
+          startFits = header-start first-part;
+          symbol = λ x h. symbol-formed x (each-at (symbols g) (λ x. symbolFault g x) (then-first _ _ parts₁) x h);
+          startNonterminal = eqb→eq (kind g (start g)) 0 (and-left _ _ c);
+          startMask = eqb→eq (mask g (start g)) 0 (and-right _ _ c);
+          rule = λ r h. rule-formed r (rules-pass r h);
+          function = λ r k h l. function-formed r k (functions-pass r (rules-pass r h) k l);
+          defined = λ r o h d. rule-complete r (all-complete r h) o d (occurrence-fits r o (rule-formed r (rules-pass r h)) (defining-occurs r o d));
+          ends = words-end (header-rules first-part .0);
         }

@@ -11,19 +11,70 @@ use lib.ListN.{length}
 use borrow.Author.Tests.{eqb-false}
 use Rattle.basics.specs.Tests.{_or_, _implies_, some}
 use Rattle.basics.proofs.TestLaws.{
-    and-intro, or-left, or-right, some-at, some-find, all-intro, implies-intro, eq-T, tested, T-false, true-T
+  and-intro,
+  or-left,
+  or-right,
+  some-at,
+  some-find,
+  all-intro,
+  implies-intro,
+  eq-T,
+  tested,
+  T-false,
+  true-T,
 }
 use Rattle.grammar.specs.declared.Verdict.the-variants.{Good}
 use Rattle.grammar.specs.Limits.{
-    mostSymbols, mostRules, mostAttributes, longestRight, mostFunctions, lastOperation, mostOccurrences
+  mostSymbols,
+  mostRules,
+  mostAttributes,
+  longestRight,
+  mostFunctions,
+  lastOperation,
+  mostOccurrences,
 }
 use Rattle.grammar.specs.Table.{
-    symbols, rules, start, symbolAt, kind, attributes, mask, nonterminal, argumentWords, isConstant, lengthAt, functionsAt,
-    functionAt, functionOf, functions, ruleAt, rightLength, symbolOf, arguments, target, operation, argument, occurrence, defining
+  symbols,
+  rules,
+  start,
+  symbolAt,
+  kind,
+  attributes,
+  mask,
+  nonterminal,
+  argumentWords,
+  isConstant,
+  lengthAt,
+  functionsAt,
+  functionAt,
+  functionOf,
+  functions,
+  ruleAt,
+  rightLength,
+  symbolOf,
+  arguments,
+  target,
+  operation,
+  argument,
+  occurrence,
+  defining,
 }
 use Rattle.grammar.specs.Reading.{
-    present, ranged, header, symbolFault, startClass, leftFault, definedBelow, argumentFault, functionFault, bodyFault, complete,
-    ruleBefore, ruleFault, leftOver, readTable
+  present,
+  ranged,
+  header,
+  symbolFault,
+  startClass,
+  leftFault,
+  definedBelow,
+  argumentFault,
+  functionFault,
+  bodyFault,
+  complete,
+  ruleBefore,
+  ruleFault,
+  leftOver,
+  readTable,
 }
 use Rattle.grammar.specs.WellFormed.{SymbolFormed, RuleFormed, FunctionFormed, WellFormed}
 use Rattle.grammar.proofs.VerdictLaws.{then-good, unless-good, each-good}
@@ -82,8 +133,8 @@ module _ (g : List ℕ) (w : WellFormed g) where
       class x f =
           ⊎-elim (λ t. or-left _ _ t)
           (λ t.
-              or-right (nonterminal g x) _
-              (eq-T _ _ (f .terminalMask (omega (arith, f .kindFits, eqb-false (kind g x) 0 (T-false _ t))))))
+          or-right (nonterminal g x) _
+          (eq-T _ _ (f .terminalMask (omega (arith, f .kindFits, eqb-false (kind g x) 0 (T-false _ t))))))
           (tested (nonterminal g x))
 
   module _ (r : ℕ) (h : r < rules g) where

@@ -9,7 +9,17 @@ use native.Mathlib.Nat.{zero-div}
 use lib.Dec.{T, eqb, ltb→lt, lt→ltb, leb→le, le→leb, eqb→eq}
 use Rattle.basics.proofs.TestLaws.{and-left, and-right, and-intro, eq-T, true-T}
 use Rattle.grammar.specs.Table.{
-    attributes, mask, inherited, rightLength, symbolOf, position, attribute, occurrence, inheritedAt, definingClass, defining
+  attributes,
+  mask,
+  inherited,
+  rightLength,
+  symbolOf,
+  position,
+  attribute,
+  occurrence,
+  inheritedAt,
+  definingClass,
+  defining,
 }
 
 -- a symbol whose mask is 0 has no inherited attribute

@@ -34,7 +34,7 @@ module _ (g : List ℕ) where
   unfolding functionAt
   function-step p k =
       let w : (1 ≤ argumentWords (word g (functionAt g p k + 1))) × (argumentWords (word g (functionAt g p k + 1)) ≤ 4) =
-              argument-words (word g (functionAt g p k + 1)) in
+      argument-words (word g (functionAt g p k + 1)) in
       (omega (arith, w .0), omega (arith, w .1))
 
   pub functions-rise : (p k n : ℕ) → k ≤ n → functionAt g p k ≤ functionAt g p n

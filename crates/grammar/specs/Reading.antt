@@ -8,16 +8,46 @@ use lib.ListN.{length}
 use Rattle.basics.specs.Tests.{_and_, _or_, _implies_, some, all}
 use Rattle.basics.specs.Lists.{word}
 use Rattle.refusals.specs.declared.Refusal.the-variants.{
-    EndsEarly, OutOfRange, WrongClass, NoOccurrence, NotDefining, Undefined, LeftOver
+  EndsEarly,
+  OutOfRange,
+  WrongClass,
+  NoOccurrence,
+  NotDefining,
+  Undefined,
+  LeftOver,
 }
 use Rattle.grammar.specs.declared.Verdict.{Verdict}
 use Rattle.grammar.specs.declared.Verdict.the-variants.{Good}
 use Rattle.grammar.specs.Limits.{
-    mostSymbols, mostRules, mostAttributes, longestRight, mostFunctions, lastOperation, mostOccurrences
+  mostSymbols,
+  mostRules,
+  mostAttributes,
+  longestRight,
+  mostFunctions,
+  lastOperation,
+  mostOccurrences,
 }
 use Rattle.grammar.specs.Table.{
-    symbols, rules, start, symbolAt, kind, attributes, mask, nonterminal, argumentWords, isConstant, lengthAt, functionsAt,
-    functionOf, functions, ruleAt, target, operation, argument, occurrence, defining
+  symbols,
+  rules,
+  start,
+  symbolAt,
+  kind,
+  attributes,
+  mask,
+  nonterminal,
+  argumentWords,
+  isConstant,
+  lengthAt,
+  functionsAt,
+  functionOf,
+  functions,
+  ruleAt,
+  target,
+  operation,
+  argument,
+  occurrence,
+  defining,
 }
 use Rattle.grammar.specs.Verdicts.{_then_, unless, each}
 

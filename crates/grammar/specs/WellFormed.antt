@@ -6,11 +6,30 @@ use mathlib.Core.List.{List}
 use lib.Dec.{T}
 use lib.ListN.{length}
 use Rattle.grammar.specs.Limits.{
-    mostSymbols, mostRules, mostAttributes, longestRight, mostFunctions, lastOperation
+  mostSymbols,
+  mostRules,
+  mostAttributes,
+  longestRight,
+  mostFunctions,
+  lastOperation,
 }
 use Rattle.grammar.specs.Table.{
-    symbols, rules, start, kind, attributes, mask, functions, ruleAt, rightLength, symbolOf, arguments, target, operation, argument,
-    occurrence, defining
+  symbols,
+  rules,
+  start,
+  kind,
+  attributes,
+  mask,
+  functions,
+  ruleAt,
+  rightLength,
+  symbolOf,
+  arguments,
+  target,
+  operation,
+  argument,
+  occurrence,
+  defining,
 }
 
 -- "kind (0 nonterminal, 1 terminal), attribute count (0..8), mask (below 2 to that count)"; "terminals have synthesized attributes only"

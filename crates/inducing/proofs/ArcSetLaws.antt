@@ -22,8 +22,8 @@ small-set w s f =
     let wide : s < 2 ^ (w + s) = omega (arith, less-pow s, pow-mono {i = s} {j = w + s} (omega arith)) in
     let cut : s % 2 ^ w < 2 ^ w = mod-lt s (pow-pos w) in
     let e : s ≡ s % 2 ^ w =
-            bit-ext (w + s) s (s % 2 ^ w) wide (omega (arith, cut, pow-mono {i = w} {j = w + s} (omega arith)))
-            (λ k h. ⊎-elim (λ l. sym (bit-cut w k s l)) (λ l. high k l ∙ sym (bit-cut-above w k s l)) (below-or-not k w)) in
+    bit-ext (w + s) s (s % 2 ^ w) wide (omega (arith, cut, pow-mono {i = w} {j = w + s} (omega arith)))
+    (λ k h. ⊎-elim (λ l. sym (bit-cut w k s l)) (λ l. high k l ∙ sym (bit-cut-above w k s l)) (below-or-not k w)) in
     subst⁻¹ (λ (n : ℕ). n < 2 ^ w) e cut
   where
     high : (k : ℕ) → w ≤ k → bit k s ≡ 0

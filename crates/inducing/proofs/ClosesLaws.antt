@@ -16,7 +16,14 @@ use Rattle.relations.specs.Paper.{Path⁺}
 use Rattle.relations.proofs.PathLaws.{path-join, path-into, path-map}
 use Rattle.closing.specs.Rows.{leads, connected}
 use Rattle.closing.proofs.ClosedLaws.{
-    Kept, Within, connected-length, connected-outside, connected-keeps, connected-arc, connected-kept, connected-below
+  Kept,
+  Within,
+  connected-length,
+  connected-outside,
+  connected-keeps,
+  connected-arc,
+  connected-kept,
+  connected-below,
 }
 use Rattle.closing.proofs.ConnectLaws.{some-member}
 use Rattle.closing.proofs.GatherLaws.{moved-forth, moved-back}
@@ -35,12 +42,12 @@ module _ (before : List ℕ) (base among : ℕ) where
   pub closes-none : (arc : ℕ → ℕ → Type 0) → Kept before base among → ((a b : ℕ) → arc a b → ⊥) → Closes before base among arc before
   closes-none arc k none =
       record {
-          size = refl;
-          outside = λ j h. refl;
-          kept = k;
-          keeps = λ o x h t. t;
-          has = λ a b e. absurd (none a b e);
-          sound = λ o x h t. Path⁺.one (inl (h, t))
+        size = refl;
+        outside = λ j h. refl;
+        kept = k;
+        keeps = λ o x h t. t;
+        has = λ a b e. absurd (none a b e);
+        sound = λ o x h t. Path⁺.one (inl (h, t));
       }
 
   -- the arcs from one set to another
@@ -49,19 +56,19 @@ module _ (before : List ℕ) (base among : ℕ) where
         → Closes before base among (Between from to) (connected before base among from to)
     connected-closes wf wt =
         record {
-            size = connected-length before base among from to k small wf wt;
-            outside = λ j out.
-                ⊎-elim (λ l. connected-outside before base among from to k small wf wt j out l)
-                (λ l.
-                    List·getD-eq-default (connected before base among from to) 0 {n = j}
-                    (omega (arith, connected-length before base among from to k small wf wt))
-                    ∙ sym (List·getD-eq-default before 0 {n = j} (omega arith))) (below-or-not j (length before));
-            kept = connected-kept before base among from to k small wf wt;
-            keeps = connected-keeps before base among from to k small wf wt;
-            has = λ a b e. connected-arc before base among from to k small wf wt a b (e .0) (e .1);
-            sound =
-                connected-below before base among from to k small wf wt (λ c d. Path⁺ (Step before base (Between from to)) c d)
-                (λ o m x p q. path-join p q) (λ a b ia ib. Path⁺.one (inr (ia, ib))) (λ o x h t. Path⁺.one (inl (h, t)))
+          size = connected-length before base among from to k small wf wt;
+          outside = λ j out.
+              ⊎-elim (λ l. connected-outside before base among from to k small wf wt j out l)
+              (λ l.
+              List·getD-eq-default (connected before base among from to) 0 {n = j}
+              (omega (arith, connected-length before base among from to k small wf wt))
+              ∙ sym (List·getD-eq-default before 0 {n = j} (omega arith))) (below-or-not j (length before));
+          kept = connected-kept before base among from to k small wf wt;
+          keeps = connected-keeps before base among from to k small wf wt;
+          has = λ a b e. connected-arc before base among from to k small wf wt a b (e .0) (e .1);
+          sound =
+              connected-below before base among from to k small wf wt (λ c d. Path⁺ (Step before base (Between from to)) c d)
+              (λ o m x p q. path-join p q) (λ a b ia ib. Path⁺.one (inr (ia, ib))) (λ o x h t. Path⁺.one (inl (h, t)));
         }
 
     -- where one of the sets is empty there are no arcs, and else every member is the end of one
@@ -86,15 +93,15 @@ module _ (before : List ℕ) (base among : ℕ) where
       → ((c d : ℕ) → first c d → both c d) → ((c d : ℕ) → second c d → both c d) → Closes before base among both after
   closes-then mid after first second both v w split left right =
       record {
-          size = w .size ∙ v .size;
-          outside = λ j h. w .outside j h ∙ v .outside j h;
-          kept = w .kept;
-          keeps = λ o x h t. w .keeps o x h (v .keeps o x h t);
-          has = λ c d e. ⊎-elim (λ f. w .keeps c d (f .0) (f .1)) (λ f. w .has c d f) (split c d e);
-          sound = λ o x h t. path-into
-              (λ c d s.
-                  ⊎-elim (λ f. path-map (λ m n q. ⊎-elim (λ y. inl y) (λ y. inr (left m n y)) q) (v .sound c d (f .0) (f .1)))
-                  (λ f. Path⁺.one (inr (right c d f))) s) (w .sound o x h t)
+        size = w .size ∙ v .size;
+        outside = λ j h. w .outside j h ∙ v .outside j h;
+        kept = w .kept;
+        keeps = λ o x h t. w .keeps o x h (v .keeps o x h t);
+        has = λ c d e. ⊎-elim (λ f. w .keeps c d (f .0) (f .1)) (λ f. w .has c d f) (split c d e);
+        sound = λ o x h t. path-into
+            (λ c d s.
+            ⊎-elim (λ f. path-map (λ m n q. ⊎-elim (λ y. inl y) (λ y. inr (left m n y)) q) (v .sound c d (f .0) (f .1)))
+            (λ f. Path⁺.one (inr (right c d f))) s) (w .sound o x h t);
       }
 
   -- the same arcs by other words
@@ -102,12 +109,12 @@ module _ (before : List ℕ) (base among : ℕ) where
       → ((c d : ℕ) → other c d → arc c d) → Closes before base among other after
   closes-same arc other after v forth back =
       record {
-          size = v .size;
-          outside = v .outside;
-          kept = v .kept;
-          keeps = v .keeps;
-          has = λ c d e. v .has c d (back c d e);
-          sound = λ o x h t. path-map (λ m n q. ⊎-elim (λ y. inl y) (λ y. inr (forth m n y)) q) (v .sound o x h t)
+        size = v .size;
+        outside = v .outside;
+        kept = v .kept;
+        keeps = v .keeps;
+        has = λ c d e. v .has c d (back c d e);
+        sound = λ o x h t. path-map (λ m n q. ⊎-elim (λ y. inl y) (λ y. inr (forth m n y)) q) (v .sound o x h t);
       }
 
 -- The arcs of a set at position i that lead from one of the first n attributes.
@@ -127,13 +134,13 @@ module _ (rows : List ℕ) (base i arcs a part all from to : ℕ) (p : part ≡ 
       let t = minus-both d all (word rows (base + (8 * i + a))) (subst (λ (n : ℕ). T (hasb d n)) m (s .1)) in
       let u = moved-forth (8 * a) (8 * i) d arcs (subst (λ (n : ℕ). T (hasb d n)) all-is (t .0)) in
       record {
-          arc = record {
-              number = 8 * a + (d - 8 * i);
-              member = u .2;
-              start = omega (arith, e, u .1);
-              end = omega (arith, u .0, u .1)
-          };
-          done = omega (arith, u .1)
+        arc = record {
+          number = 8 * a + (d - 8 * i);
+          member = u .2;
+          start = omega (arith, e, u .1);
+          end = omega (arith, u .0, u .1);
+        };
+        done = omega (arith, u .1);
       }
 
   pub missing-inside : (among : ℕ) → Ends among i arcs → Inside among (Between from to)
@@ -155,14 +162,17 @@ module _ (rows : List ℕ) (base i arcs a part all from to : ℕ) (p : part ≡ 
           let same : s .number ≡ 8 * a + (d - 8 * i) = omega (arith, s .end) in
           ⊎-elim (λ t. inl (omega arith, subst⁻¹ (λ (o : ℕ). T (hasb d (word rows (base + o)))) start t))
           (λ t.
-              inr (subst⁻¹ (λ (n : ℕ). T (hasb c n)) f
-              (subst⁻¹ (λ (n : ℕ). T (hasb n (single (8 * i + a)))) start (single-has (8 * i + a))),
-              subst⁻¹ (λ (n : ℕ). T (hasb d n)) m
-              (both-minus d all (word rows (base + (8 * i + a)))
-              (subst⁻¹ (λ (n : ℕ). T (hasb d n)) all-is
-              (moved-back (8 * a) (8 * i) d arcs (omega (arith, s .end)) (omega (arith, s .end))
-              (subst (λ (n : ℕ). T (hasb n arcs)) same (s .member)))) t)))
+          inr (
+            subst⁻¹ (λ (n : ℕ). T (hasb c n)) f
+                (subst⁻¹ (λ (n : ℕ). T (hasb n (single (8 * i + a)))) start (single-has (8 * i + a))),
+            subst⁻¹ (λ (n : ℕ). T (hasb d n)) m
+                (both-minus d all (word rows (base + (8 * i + a)))
+                (subst⁻¹ (λ (n : ℕ). T (hasb d n)) all-is
+                (moved-back (8 * a) (8 * i) d arcs (omega (arith, s .end)) (omega (arith, s .end))
+                (subst (λ (n : ℕ). T (hasb n arcs)) same (s .member)))) t),
+          ))
           (tested (hasb d (word rows (base + (8 * i + a)))))
+
       split : (c d : ℕ) → ArcFrom i arcs (a + 1) c d → ((c < 64) × T (leads rows base c d)) ⊎ Between from to c d
       split c d s =
           ⊎-elim

@@ -11,8 +11,20 @@ use lib.ListN.{getD}
 use Rattle.bits.specs.Bit.{hasb}
 use Rattle.basics.specs.Tests.{some, least}
 use Rattle.basics.proofs.TestLaws.{
-    least-is, least-one, some-at, some-find, chosen, passed-over, true-T, false-T, T-false, below-suc, below-or-not, and-intro, and-right,
-    same-test
+  least-is,
+  least-one,
+  some-at,
+  some-find,
+  chosen,
+  passed-over,
+  true-T,
+  false-T,
+  T-false,
+  below-suc,
+  below-or-not,
+  and-intro,
+  and-right,
+  same-test,
 }
 use Rattle.grammar.specs.Table.{rules, ruleCounts}
 use Rattle.order.specs.Computed.{hasCycle, circular, cycleRule, cycleOccurrence}
@@ -69,11 +81,11 @@ module _ (rows : List ℕ) where
       let here : T (lies rows r o) = true-T _ (sym (lies-is r o b e) ∙ f) in
       let there : T (cyclic rows r) = some-at 64 (λ p. lies rows r p) o l here in
       let er : r ≡ least n (λ q. cyclic rows q) =
-              least-one n (λ q. cyclic rows q) r (least n (λ q. cyclic rows q))
-              (record { inside = omega arith; passes = λ _. there; lowest = w }) (least-is n (λ q. cyclic rows q)) in
+      least-one n (λ q. cyclic rows q) r (least n (λ q. cyclic rows q))
+      (record { inside = omega arith; passes = λ _. there; lowest = w }) (least-is n (λ q. cyclic rows q)) in
       let eo : o ≡ least 64 (λ p. lies rows r p) =
-              least-one 64 (λ p. lies rows r p) o (least 64 (λ p. lies rows r p))
-              (record { inside = omega arith; passes = λ _. here; lowest = v }) (least-is 64 (λ p. lies rows r p)) in
+      least-one 64 (λ p. lies rows r p) o (least 64 (λ p. lies rows r p))
+      (record { inside = omega arith; passes = λ _. here; lowest = v }) (least-is 64 (λ p. lies rows r p)) in
       ap (λ (x : ℕ). At r x) eo
       ∙ (ap (λ (q : ℕ). At q (least 64 (λ p. lies rows q p))) er
       ∙ sym (chosen (some n (λ q. cyclic rows q)) (At (least n (λ q. cyclic rows q)) (least 64 (λ o. lies rows (least n (λ q. cyclic rows q)) o))) Nothing (some-at n (λ q. cyclic rows q) r h there)))
@@ -84,9 +96,9 @@ least-same n f h e =
     least-one n f (least n f) (least n h) (least-is n f)
     (let w = least-is n h in
     record {
-        inside = w .inside;
-        passes = λ l. subst⁻¹ (λ (b : Bool). T b) (e (least n h) l) (w .passes l);
-        lowest = λ k l t. w .lowest k l (subst (λ (b : Bool). T b) (e k (omega (arith, w .inside))) t)
+      inside = w .inside;
+      passes = λ l. subst⁻¹ (λ (b : Bool). T b) (e (least n h) l) (w .passes l);
+      lowest = λ k l t. w .lowest k l (subst (λ (b : Bool). T b) (e k (omega (arith, w .inside))) t);
     })
 
 some-same : (n : ℕ) (f h : ℕ → Bool) → ((k : ℕ) → k < n → f k ≡ h k) → some n f ≡ some n h
@@ -111,9 +123,9 @@ module _ (g : List ℕ) (paths : ℕ → ℕ → ℕ → Bool) (lent rows : List
   unfolding cycleIn circular cycleRule cycleOccurrence
   cycle-is =
       let er : least (rules g) (λ r. cyclic rows r) ≡ cycleRule g paths =
-              least-same (rules g) (λ r. cyclic rows r) (λ r. hasCycle g paths r) cyclic-has in
+      least-same (rules g) (λ r. cyclic rows r) (λ r. hasCycle g paths r) cyclic-has in
       let es : some (rules g) (λ r. cyclic rows r) ≡ circular g paths =
-              some-same (rules g) (λ r. cyclic rows r) (λ r. hasCycle g paths r) cyclic-has in
+      some-same (rules g) (λ r. cyclic rows r) (λ r. hasCycle g paths r) cyclic-has in
       ap (λ (b : Bool). cond b (At (least (rules g) (λ r. cyclic rows r)) (least 64 (λ o. lies rows (least (rules g) (λ r. cyclic rows r)) o))) Nothing) es
       ∙ (ap (λ (q : ℕ). cond (circular g paths) (At q (least 64 (λ o. lies rows q o))) Nothing) er
       ∙ go (circular g paths) refl)
@@ -125,9 +137,9 @@ module _ (g : List ℕ) (paths : ℕ → ℕ → ℕ → Bool) (lent rows : List
           ap (λ (o : ℕ). At (cycleRule g paths) o)
           (least-same 64 (λ o. lies rows (cycleRule g paths) o) (λ o. paths (cycleRule g paths) o o)
           (λ o l. lies-paths (cycleRule g paths) o
-              (let k = some-find (rules g) (λ r. hasCycle g paths r) (true-T _ e) in
-              let w = least-is (rules g) (λ r. hasCycle g paths r) in
-              ⊎-elim (λ m. m) (λ m. absurd (w .lowest (k .0) (omega (arith, k .1)) (k .2))) (below-or-not (cycleRule g paths) (rules g))) l))
+          (let k = some-find (rules g) (λ r. hasCycle g paths r) (true-T _ e) in
+          let w = least-is (rules g) (λ r. hasCycle g paths r) in
+          ⊎-elim (λ m. m) (λ m. absurd (w .lowest (k .0) (omega (arith, k .1)) (k .2))) (below-or-not (cycleRule g paths) (rules g))) l))
       go false e = refl
 
   -- what the search answers, for each of its two answers
@@ -138,7 +150,7 @@ module _ (g : List ℕ) (paths : ℕ → ℕ → ℕ → Bool) (lent rows : List
       go : (b : Bool) → circular g paths ≡ b → (circular g paths ≡ true) × (r ≡ cycleRule g paths) × (o ≡ cycleOccurrence g paths)
       go true f =
           let q : At r o ≡ At (cycleRule g paths) (cycleOccurrence g paths) =
-                  sym e ∙ (cycle-is ∙ ap (λ (b : Bool). cond b (At (cycleRule g paths) (cycleOccurrence g paths)) Nothing) f) in
+          sym e ∙ (cycle-is ∙ ap (λ (b : Bool). cond b (At (cycleRule g paths) (cycleOccurrence g paths)) Nothing) f) in
           (f, (cc), (cc))
       go false f =
           let q : At r o ≡ Nothing = sym e ∙ (cycle-is ∙ ap (λ (b : Bool). cond b (At (cycleRule g paths) (cycleOccurrence g paths)) Nothing) f) in
@@ -151,7 +163,7 @@ module _ (g : List ℕ) (paths : ℕ → ℕ → ℕ → Bool) (lent rows : List
       go false f = f
       go true f =
           let q : Nothing ≡ At (cycleRule g paths) (cycleOccurrence g paths) =
-                  sym e ∙ (cycle-is ∙ ap (λ (b : Bool). cond b (At (cycleRule g paths) (cycleOccurrence g paths)) Nothing) f) in
+          sym e ∙ (cycle-is ∙ ap (λ (b : Bool). cond b (At (cycleRule g paths) (cycleOccurrence g paths)) Nothing) f) in
           absurd (let z : _≡_ {A = ℕ} 0 1 = cc in omega arith)
 
   -- and back: nothing circular, nothing found

@@ -14,8 +14,22 @@ use Rattle.bits.proofs.MemberLaws.{none-left, hasb-ext}
 use Rattle.basics.specs.Tests.{_implies_, all, count}
 use Rattle.basics.specs.Lists.{word, padded}
 use Rattle.basics.proofs.TestLaws.{
-    or-cases, and-intro, and-left, and-right, false-T, below-or-not, same-test, tested, implies-use, implies-fails, all-at, all-intro,
-    all-fails, count-le, count-more, eq-T
+  or-cases,
+  and-intro,
+  and-left,
+  and-right,
+  false-T,
+  below-or-not,
+  same-test,
+  tested,
+  implies-use,
+  implies-fails,
+  all-at,
+  all-intro,
+  all-fails,
+  count-le,
+  count-more,
+  eq-T,
 }
 use Rattle.basics.proofs.ListLaws.{length-padded, getD-past}
 use Rattle.grammar.specs.declared.Verdict.the-variants.{Good}
@@ -46,8 +60,8 @@ unfolding padded
 padded-word n xs x =
     ⊎-elim (λ l. List·getD-append xs (replicate (n - length xs) 0) 0 x l)
     (λ l.
-        getD-past xs (replicate (n - length xs) 0) 0 x l
-        ∙ (zeros (n - length xs) (x - length xs) ∙ sym (List·getD-eq-default xs 0 {n = x} l)))
+    getD-past xs (replicate (n - length xs) 0) 0 x l
+    ∙ (zeros (n - length xs) (x - length xs) ∙ sym (List·getD-eq-default xs 0 {n = x} l)))
     (below-or-not x (length xs))
   where
     zeros : (m i : ℕ) → word (replicate m 0) i ≡ 0
@@ -107,12 +121,13 @@ module _ (g : List ℕ) (good : readTable g ≡ Good) where
         let t₂ = and-right _ _ t₁ in
         let e : position c ≡ position d = eqb→eq _ _ (and-left _ _ t₂) in
         let start : 8 * i + k / 8 ≡ c = omega arith in
-        let end : 8 * i + k % 8 ≡ d = omega arith in
-        (occurs-below g formed r c (counts g good r h) (and-left _ _ t),
-        subst (λ (o : ℕ). T (leads rows (64 * r) o d)) start
-        (subst (λ (o : ℕ). T (leads rows (64 * r) (8 * i + k / 8) o)) end
-        (v .spreads r i k h (occurs-inside g r c (and-left _ _ t))
-        (subst (λ (n : ℕ). T (hasb k n)) (s-word (symbolOf g r i)) (and-right _ _ t₂)))))
+        let end : 8 * i + k % 8 ≡ d = omega arith in (
+          occurs-below g formed r c (counts g good r h) (and-left _ _ t),
+          subst (λ (o : ℕ). T (leads rows (64 * r) o d)) start
+              (subst (λ (o : ℕ). T (leads rows (64 * r) (8 * i + k / 8) o)) end
+              (v .spreads r i k h (occurs-inside g r c (and-left _ _ t))
+              (subst (λ (n : ℕ). T (hasb k n)) (s-word (symbolOf g r i)) (and-right _ _ t₂)))),
+        )
 
     arc-leads : (r c d : ℕ) → r < rules g → T (idp g s r c d) → (c < 64) × T (leads rows (64 * r) c d)
     unfolding idp
@@ -122,10 +137,10 @@ module _ (g : List ℕ) (good : readTable g ≡ Good) where
     computed : Holds g (λ r a b. T (idp g s r a b)) (λ r a b. IDP⁺ g r a b) rows
     computed =
         record {
-            room = w .holds .room;
-            kept = w .holds .kept;
-            has = λ r c d h t. arc-leads r c d h t;
-            within = w .holds .within
+          room = w .holds .room;
+          kept = w .holds .kept;
+          has = λ r c d h t. arc-leads r c d h t;
+          within = w .holds .within;
         }
 
     s-closed : Closed g s
@@ -142,10 +157,10 @@ module _ (g : List ℕ) (good : readTable g ≡ Good) where
         let c : ℕ = attributes g (symbolOf g r i) in
         let room : k / 8 < c = omega (arith, ap (attributes g) (u .symbolIs)) in
         let here : T (hasb k (arcsAt rows (64 * r) i c)) =
-                subst⁻¹ (λ (z : Bool). T z) (arc-at rows (64 * r) i c k (omega arith))
-                (and-intro _ _ (lt→ltb (k / 8) c room)
-                (subst (λ (n : ℕ). T (leads rows (64 * r) (8 * i + n) (8 * i + k % 8))) ka
-                (subst (λ (n : ℕ). T (leads rows (64 * r) (8 * i + a) (8 * i + n))) kb way))) in
+        subst⁻¹ (λ (z : Bool). T z) (arc-at rows (64 * r) i c k (omega arith))
+        (and-intro _ _ (lt→ltb (k / 8) c room)
+        (subst (λ (n : ℕ). T (leads rows (64 * r) (8 * i + n) (8 * i + k % 8))) ka
+        (subst (λ (n : ℕ). T (leads rows (64 * r) (8 * i + a) (8 * i + n))) kb way))) in
         subst⁻¹ (λ (n : ℕ). T (hasb k n)) (s-word x)
         (subst (λ (y : ℕ). T (hasb k (word ids y))) (u .symbolIs) (v .gathers r i k h (u .inside) here))
 
@@ -173,10 +188,10 @@ module _ (g : List ℕ) (good : readTable g ≡ Good) where
   pub standing-start : (rows ids : List ℕ) → Induced g rows → ids ≡ replicate 32 0 → Standing g rows rows ids
   standing-start rows ids w e =
       record {
-          holds = w;
-          frame = frame-none g rows;
-          sized = ap length e ∙ length-replicate {A = ℕ} 32 0;
-          arcs = λ x k t. absurd (T-not (hasb k 0) (none-left k) (subst (λ (n : ℕ). T (hasb k n)) (ap (λ (s : List ℕ). word s x) e ∙ zeros x) t))
+        holds = w;
+        frame = frame-none g rows;
+        sized = ap length e ∙ length-replicate {A = ℕ} 32 0;
+        arcs = λ x k t. absurd (T-not (hasb k 0) (none-left k) (subst (λ (n : ℕ). T (hasb k n)) (ap (λ (s : List ℕ). word s x) e ∙ zeros x) t));
       }
     where
       zeros : (x : ℕ) → word (replicate 32 0) x ≡ 0
@@ -189,11 +204,11 @@ module _ (g : List ℕ) (good : readTable g ≡ Good) where
       → Standing g filled rows ids → Standing g entry rows ids
   standing-from entry cleared filled rows ids c f w =
       record {
-          holds = w .holds;
-          frame =
-              frame-then g entry filled rows (frame-then g entry cleared filled (record { size = c .size; rest = c .rest }) f) (w .frame);
-          sized = w .sized;
-          arcs = w .arcs
+        holds = w .holds;
+        frame =
+            frame-then g entry filled rows (frame-then g entry cleared filled (record { size = c .size; rest = c .rest }) f) (w .frame);
+        sized = w .sized;
+        arcs = w .arcs;
       }
 
   -- a round is seen from the rows that it finds
@@ -204,10 +219,10 @@ module _ (g : List ℕ) (good : readTable g ≡ Good) where
       → Standing g entry after ids
   standing-turn entry rows before after ids w u =
       record {
-          holds = u .standing .holds;
-          frame = frame-then g entry rows after (w .frame) (u .standing .frame);
-          sized = u .standing .sized;
-          arcs = u .standing .arcs
+        holds = u .standing .holds;
+        frame = frame-then g entry rows after (w .frame) (u .standing .frame);
+        sized = u .standing .sized;
+        arcs = u .standing .arcs;
       }
 
   -- where the round left the state as it was
@@ -238,32 +253,34 @@ unfolding arcCount
 arcs-more g good rows before after ids t f u e d =
     ⊎-elim
     (λ a.
-        absurd (T-not (all 32 (λ x. eqb (word before x) (word ids x))) (false-T _ (sym e ∙ d))
-        (all-intro 32 (λ x. eqb (word before x) (word ids x)) (λ x h. eq-T _ _ (nothing-new a x h)))))
+    absurd (T-not (all 32 (λ x. eqb (word before x) (word ids x))) (false-T _ (sym e ∙ d))
+    (all-intro 32 (λ x. eqb (word before x) (word ids x)) (λ x h. eq-T _ _ (nothing-new a x h)))))
     (λ a.
-        let j = all-fails 2048 (λ j. new j implies old j) a in
-        let m = implies-fails (new (j .0)) (old (j .0)) (j .2) in
-        count-more 2048 old new (λ j h. u .rounded .grows (j / 64) (j % 64)) (j .0) (j .1) (m .1) (m .0))
+    let j = all-fails 2048 (λ j. new j implies old j) a in
+    let m = implies-fails (new (j .0)) (old (j .0)) (j .2) in
+    count-more 2048 old new (λ j h. u .rounded .grows (j / 64) (j % 64)) (j .0) (j .1) (m .1) (m .0))
     (tested (all 2048 (λ j. new j implies old j)))
   where
     old : ℕ → Bool
     old j = hasb (j % 64) (word before (j / 64))
+
     new : ℕ → Bool
     new j = hasb (j % 64) (word ids (j / 64))
+
     nothing-new : T (all 2048 (λ j. new j implies old j)) → (x : ℕ) → x < 32 → word before x ≡ word ids x
     nothing-new a x h =
         hasb-ext 64 (word before x) (word ids x) (state-fits g good before f x) (state-fits g good ids (u .standing .arcs) x)
         (λ k l.
-            same-test (hasb k (word before x)) (hasb k (word ids x)) (λ p. u .rounded .grows x k p)
-            (λ p.
-                let i : (64 * x + k) / 64 ≡ x = omega arith in
-                let m : (64 * x + k) % 64 ≡ k = omega arith in
-                subst (λ (y : ℕ). T (hasb k (word before y))) i
-                (subst (λ (c : ℕ). T (hasb c (word before ((64 * x + k) / 64)))) m
-                (implies-use (new (64 * x + k)) (old (64 * x + k))
-                (all-at 2048 (λ j. new j implies old j) a (64 * x + k) (omega arith))
-                (subst⁻¹ (λ (c : ℕ). T (hasb c (word ids ((64 * x + k) / 64)))) m
-                (subst⁻¹ (λ (y : ℕ). T (hasb k (word ids y))) i p))))))
+        same-test (hasb k (word before x)) (hasb k (word ids x)) (λ p. u .rounded .grows x k p)
+        (λ p.
+        let i : (64 * x + k) / 64 ≡ x = omega arith in
+        let m : (64 * x + k) % 64 ≡ k = omega arith in
+        subst (λ (y : ℕ). T (hasb k (word before y))) i
+        (subst (λ (c : ℕ). T (hasb c (word before ((64 * x + k) / 64)))) m
+        (implies-use (new (64 * x + k)) (old (64 * x + k))
+        (all-at 2048 (λ j. new j implies old j) a (64 * x + k) (omega arith))
+        (subst⁻¹ (λ (c : ℕ). T (hasb c (word ids ((64 * x + k) / 64)))) m
+        (subst⁻¹ (λ (y : ℕ). T (hasb k (word ids y))) i p))))))
 
 -- so fewer are left to add
 pub fewer-left : (g : List ℕ) (good : readTable g ≡ Good) (rows before after ids : List ℕ) (t : Bool) → Arcs g before

@@ -51,29 +51,29 @@ module _ (g : List ℕ) (f : ℕ) where
   pub sources-start : Sources g f 0 0
   sources-start =
       record {
-          has = λ a b s. absurd (let h = s .placeFits in omega arith);
-          sound = λ a t. absurd (T-not (hasb a 0) (none-left a) t)
+        has = λ a b s. absurd (let h = s .placeFits in omega arith);
+        sound = λ a t. absurd (T-not (hasb a 0) (none-left a) t);
       }
 
   pub sources-turn : (j from a next : ℕ) → Sources g f j from → a ≡ getD g (f + 2 + j) 0 → next ≡ insert a from → Sources g f (j + 1) next
   sources-turn j from a next w e h =
       record {
-          has = λ c d s.
-              subst⁻¹ (λ (n : ℕ). T (hasb c n)) h
-              (⊎-elim
-              (λ l.
-                  insert-old c a from
-                  (w .has c d (record { place = s .place; placeFits = l; argument = s .argument; target = s .target })))
-              (λ l.
-                  subst⁻¹ (λ (n : ℕ). T (hasb n (insert a from))) (s .argument ∙ (ap (λ (i : ℕ). word g (f + 2 + i)) l ∙ sym e))
-                  (insert-new a from))
-              (below-suc (s .place) j (omega (arith, s .placeFits))));
-          sound = λ c t.
-              ⊎-elim (λ q. record { place = j; placeFits = omega arith; argument = q ∙ e; target = refl })
-              (λ l.
-                  let s = w .sound c l in
-                  record { place = s .place; placeFits = omega (arith, s .placeFits); argument = s .argument; target = refl })
-              (insert-cases c a from (subst (λ (n : ℕ). T (hasb c n)) h t))
+        has = λ c d s.
+            subst⁻¹ (λ (n : ℕ). T (hasb c n)) h
+            (⊎-elim
+            (λ l.
+            insert-old c a from
+            (w .has c d (record { place = s .place; placeFits = l; argument = s .argument; target = s .target })))
+            (λ l.
+            subst⁻¹ (λ (n : ℕ). T (hasb n (insert a from))) (s .argument ∙ (ap (λ (i : ℕ). word g (f + 2 + i)) l ∙ sym e))
+            (insert-new a from))
+            (below-suc (s .place) j (omega (arith, s .placeFits))));
+        sound = λ c t.
+            ⊎-elim (λ q. record { place = j; placeFits = omega arith; argument = q ∙ e; target = refl })
+            (λ l.
+            let s = w .sound c l in
+            record { place = s .place; placeFits = omega (arith, s .placeFits); argument = s .argument; target = refl })
+            (insert-cases c a from (subst (λ (n : ℕ). T (hasb c n)) h t));
       }
 
   -- the arcs from them to the target are those of the function
@@ -83,26 +83,28 @@ module _ (g : List ℕ) (f : ℕ) where
     arc-forth a b s =
         let v = w .sound a (s .0) in
         record {
-            place = v .place;
-            placeFits = omega (arith, v .placeFits);
-            argument = v .argument;
-            target = single-only b target (subst (λ (t : ℕ). T (hasb b t)) q (s .1)) ∙ e
+          place = v .place;
+          placeFits = omega (arith, v .placeFits);
+          argument = v .argument;
+          target = single-only b target (subst (λ (t : ℕ). T (hasb b t)) q (s .1)) ∙ e;
         }
 
     pub function-inside : (among : ℕ) → FunctionFits g among f → Inside among (Between from to)
     function-inside among v a b s =
-        let u = arc-forth a b s in
-        (subst⁻¹ (λ (o : ℕ). T (hasb o among)) (u .argument) (v .argumentFits (u .place) (u .placeFits)),
-        subst⁻¹ (λ (o : ℕ). T (hasb o among)) (u .target) (v .targetFits))
+        let u = arc-forth a b s in (
+          subst⁻¹ (λ (o : ℕ). T (hasb o among)) (u .argument) (v .argumentFits (u .place) (u .placeFits)),
+          subst⁻¹ (λ (o : ℕ). T (hasb o among)) (u .target) (v .targetFits),
+        )
 
     pub function-closes : (entry : List ℕ) (base among : ℕ) (after : List ℕ) → Closes entry base among (Between from to) after
         → Closes entry base among (FunctionArc g f (argumentsAt g f)) after
     function-closes entry base among after v =
         closes-same entry base among (Between from to) (FunctionArc g f (argumentsAt g f)) after v arc-forth
-        (λ a b s.
-            (w .has a b (record { place = s .place; placeFits = omega (arith, s .placeFits); argument = s .argument; target = s .target }),
-            subst⁻¹ (λ (t : ℕ). T (hasb b t)) q
-            (subst⁻¹ (λ (o : ℕ). T (hasb o (single target))) (s .target ∙ sym e) (single-has target))))
+        (λ a b s. (
+          w .has a b (record { place = s .place; placeFits = omega (arith, s .placeFits); argument = s .argument; target = s .target }),
+          subst⁻¹ (λ (t : ℕ). T (hasb b t)) q
+              (subst⁻¹ (λ (o : ℕ). T (hasb o (single target))) (s .target ∙ sym e) (single-has target)),
+        ))
 
 -- where the next function starts
 pub next-place : (g : List ℕ) (p k f next : ℕ) → f ≡ functionAt g p k → next ≡ f + 2 + argumentWords (getD g (f + 1) 0) → next ≡ functionAt g p (k + 1)
@@ -120,15 +122,17 @@ module _ (entry : List ℕ) (base among : ℕ) (g : List ℕ) (p : ℕ) where
   rule-turn rows k n f after v h w l m e u =
       closes-then entry base among rows after (RuleArc g p k) (FunctionArc g f (argumentsAt g f)) (RuleArc g p (k + 1)) v u
       (λ c d s.
-          ⊎-elim
-          (λ q.
-              inl (argument-small g among (functionAt g p (s .function)) h (w (s .function) (omega arith)) (s .arc .place)
-              (argumentsAt g (functionAt g p (s .function))) c (s .arc .placeFits) refl (s .arc .argument),
-              v .has c d (record { function = s .function; functionFits = q; arc = s .arc })))
-          (λ q.
-              inr (subst⁻¹ (λ (i : ℕ). FunctionArc g i (argumentsAt g i) c d) e
-              (subst (λ (i : ℕ). FunctionArc g (functionAt g p i) (argumentsAt g (functionAt g p i)) c d) q (s .arc))))
-          (below-suc (s .function) k (omega (arith, s .functionFits))))
+      ⊎-elim
+      (λ q.
+      inl (
+        argument-small g among (functionAt g p (s .function)) h (w (s .function) (omega arith)) (s .arc .place)
+            (argumentsAt g (functionAt g p (s .function))) c (s .arc .placeFits) refl (s .arc .argument),
+        v .has c d (record { function = s .function; functionFits = q; arc = s .arc }),
+      ))
+      (λ q.
+      inr (subst⁻¹ (λ (i : ℕ). FunctionArc g i (argumentsAt g i) c d) e
+      (subst (λ (i : ℕ). FunctionArc g (functionAt g p i) (argumentsAt g (functionAt g p i)) c d) q (s .arc))))
+      (below-suc (s .function) k (omega (arith, s .functionFits))))
       (λ c d s. record { function = s .function; functionFits = omega (arith, s .functionFits); arc = s .arc })
       (λ c d s. record { function = k; functionFits = omega arith; arc = subst (λ (i : ℕ). FunctionArc g i (argumentsAt g i) c d) e s })
 

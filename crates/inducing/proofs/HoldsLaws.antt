@@ -32,12 +32,12 @@ same-kept : (before after : List ℕ) (base among : ℕ) → Kept before base am
     → ((o x : ℕ) → o < 64 → leads after base o x ≡ leads before base o x) → Kept after base among
 same-kept before after base among k room e =
     record {
-        room = room;
-        closed = λ o m x ho hm s t.
-            subst⁻¹ (λ (b : Bool). T b) (e o x ho)
-            (k .closed o m x ho hm (subst (λ (b : Bool). T b) (e o m ho) s) (subst (λ (b : Bool). T b) (e m x hm) t));
-        from = λ o x ho t. k .from o x ho (subst (λ (b : Bool). T b) (e o x ho) t);
-        to = λ o x ho t. k .to o x ho (subst (λ (b : Bool). T b) (e o x ho) t)
+      room = room;
+      closed = λ o m x ho hm s t.
+          subst⁻¹ (λ (b : Bool). T b) (e o x ho)
+          (k .closed o m x ho hm (subst (λ (b : Bool). T b) (e o m ho) s) (subst (λ (b : Bool). T b) (e m x hm) t));
+      from = λ o x ho t. k .from o x ho (subst (λ (b : Bool). T b) (e o x ho) t);
+      to = λ o x ho t. k .to o x ho (subst (λ (b : Bool). T b) (e o x ho) t);
     }
 
 -- where arcs are added to the rows of rule q, those of another rule stay, and no path is lost
@@ -78,22 +78,22 @@ module _ (g : List ℕ) (lower more upper : ℕ → ℕ → ℕ → Type 0) (tra
       → Holds g more upper after
   holds-turn w h u inside split =
       record {
-          room = omega (arith, w .room, u .size);
-          kept = λ r l.
-              ⊎-elim (λ e. subst⁻¹ (λ (n : ℕ). Kept after (64 * n) (occurrencesOf g n)) e (u .kept))
-              (λ d. same-kept rows after (64 * r) (occurrencesOf g r) (w .kept r l) (omega (arith, w .room, u .size)) (λ o x m. rows-other rows after q (occurrencesOf g q) arc u r o x d m))
-              (same-or-not r q);
-          has = λ r a b l d.
-              ⊎-elim (λ s. let t = w .has r a b l s in (t .0, rows-keep rows after q (occurrencesOf g q) arc u r a b (t .0) (t .1)))
-              (λ s. (s .1, subst⁻¹ (λ (n : ℕ). T (leads after (64 * n) a b)) (s .0) (u .has a b (s .2)))) (split r a b l d);
-          within = λ r o x l m t.
-              ⊎-elim
-              (λ e.
-                  subst⁻¹ (λ (n : ℕ). upper n o x) e
-                  (path-closed (trans q)
-                  (path-map (λ c d s. ⊎-elim (λ f. w .within q c d h (f .0) (f .1)) (λ f. inside c d f) s)
-                  (u .sound o x m (subst (λ (n : ℕ). T (leads after (64 * n) o x)) e t)))))
-              (λ d. w .within r o x l m (subst (λ (b : Bool). T b) (rows-other rows after q (occurrencesOf g q) arc u r o x d m) t)) (same-or-not r q)
+        room = omega (arith, w .room, u .size);
+        kept = λ r l.
+            ⊎-elim (λ e. subst⁻¹ (λ (n : ℕ). Kept after (64 * n) (occurrencesOf g n)) e (u .kept))
+            (λ d. same-kept rows after (64 * r) (occurrencesOf g r) (w .kept r l) (omega (arith, w .room, u .size)) (λ o x m. rows-other rows after q (occurrencesOf g q) arc u r o x d m))
+            (same-or-not r q);
+        has = λ r a b l d.
+            ⊎-elim (λ s. let t = w .has r a b l s in (t .0, rows-keep rows after q (occurrencesOf g q) arc u r a b (t .0) (t .1)))
+            (λ s. (s .1, subst⁻¹ (λ (n : ℕ). T (leads after (64 * n) a b)) (s .0) (u .has a b (s .2)))) (split r a b l d);
+        within = λ r o x l m t.
+            ⊎-elim
+            (λ e.
+            subst⁻¹ (λ (n : ℕ). upper n o x) e
+            (path-closed (trans q)
+            (path-map (λ c d s. ⊎-elim (λ f. w .within q c d h (f .0) (f .1)) (λ f. inside c d f) s)
+            (u .sound o x m (subst (λ (n : ℕ). T (leads after (64 * n) o x)) e t)))))
+            (λ d. w .within r o x l m (subst (λ (b : Bool). T b) (rows-other rows after q (occurrencesOf g q) arc u r o x d m) t)) (same-or-not r q);
       }
 
 -- The rows have every path of what they have; so where they stay within those paths, they hold exactly them.
@@ -119,4 +119,4 @@ module _ (g : List ℕ) (lower upper : ℕ → ℕ → ℕ → Type 0) (rows : L
   holds-rows entry paths f down up =
       rows-are g paths entry rows (f .size) (omega (arith, w .room, f .size)) (f .rest) row-small
       (λ r o b h l m.
-          same-test (leads rows (64 * r) o b) (paths r o b) (λ t. up r o b h (w .within r o b h l t)) (λ t. path-leads r h (down r o b h t) .1))
+      same-test (leads rows (64 * r) o b) (paths r o b) (λ t. up r o b h (w .within r o b h l t)) (λ t. path-leads r h (down r o b h t) .1))

@@ -21,11 +21,11 @@ clear-start rows = record { size = refl; zero = λ j h. absurd (omega arith); re
 pub clear-turn : (entry rows : List ℕ) (j count : ℕ) → Cleared j entry rows → j < count → count ≤ length entry → Cleared (j + 1) entry (set rows j 0)
 clear-turn entry rows j count w h l =
     record {
-        size = length-set rows j 0 ∙ w .size;
-        zero = λ i m.
-            ⊎-elim (λ k. getD-set-other rows j i 0 0 (λ e. omega arith) ∙ w .zero i k)
-            (λ k. subst⁻¹ (λ (n : ℕ). word (set rows j 0) n ≡ 0) k (getD-set-same rows j 0 0 (omega (arith, w .size)))) (below-suc i j (omega arith));
-        rest = λ i m. getD-set-other rows j i 0 0 (λ e. omega arith) ∙ w .rest i (omega arith)
+      size = length-set rows j 0 ∙ w .size;
+      zero = λ i m.
+          ⊎-elim (λ k. getD-set-other rows j i 0 0 (λ e. omega arith) ∙ w .zero i k)
+          (λ k. subst⁻¹ (λ (n : ℕ). word (set rows j 0) n ≡ 0) k (getD-set-same rows j 0 0 (omega (arith, w .size)))) (below-suc i j (omega arith));
+      rest = λ i m. getD-set-other rows j i 0 0 (λ e. omega arith) ∙ w .rest i (omega arith);
     }
 
 pub clear-finish : (entry rows : List ℕ) (j count : ℕ) → Cleared j entry rows → j ≤ count → count ≤ j → Cleared count entry rows

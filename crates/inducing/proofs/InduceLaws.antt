@@ -58,19 +58,19 @@ pub filling-start : (g entry : List ℕ) → 64 * rules g ≤ length entry → (
 unfolding leads
 filling-start g entry room zeros =
     record {
-        bound = omega arith;
-        holds = record {
-            room = room;
-            kept = λ r h. record {
-                room = omega arith;
-                closed = λ o m x ho hm s t. absurd (none r o m h ho s);
-                from = λ o x ho t. absurd (none r o x h ho t);
-                to = λ o x ho t. absurd (none r o x h ho t)
-            };
-            has = λ r a b h d. absurd (let l = d .0 in omega arith);
-            within = λ r o x h l t. absurd (none r o x h l t)
+      bound = omega arith;
+      holds = record {
+        room = room;
+        kept = λ r h. record {
+          room = omega arith;
+          closed = λ o m x ho hm s t. absurd (none r o m h ho s);
+          from = λ o x ho t. absurd (none r o x h ho t);
+          to = λ o x ho t. absurd (none r o x h ho t);
         };
-        frame = frame-none g entry
+        has = λ r a b h d. absurd (let l = d .0 in omega arith);
+        within = λ r o x h l t. absurd (none r o x h l t);
+      };
+      frame = frame-none g entry;
     }
   where
     none : (r o x : ℕ) → r < rules g → o < 64 → T (hasb x (word entry (64 * r + o))) → ⊥
@@ -81,26 +81,27 @@ module _ (g : List ℕ) (good : readTable g ≡ Good) where
       → among ≡ occurrencesAt g p → Closes rows (64 * n) among (RuleArc g p (functionsAt g p)) after → Filling g entry (n + 1) after
   filling-turn entry rows n p among after w h e a u =
       let v : Closes rows (64 * n) (occurrencesOf g n) (RuleArc g (ruleAt g n) (functionsAt g (ruleAt g n))) after =
-              closes-at g rows after n p among (λ q. RuleArc g q (functionsAt g q)) e a u in
+      closes-at g rows after n p among (λ q. RuleArc g q (functionsAt g q)) e a u in
       record {
-          bound = omega arith;
-          holds =
-              holds-turn g (λ r a b. (r < n) × DP g r a b) (λ r a b. (r < n + 1) × DP g r a b) (λ r a b. IDP⁺ g r a b) (idp-trans g) rows after n
-              (RuleArc g (ruleAt g n) (functionsAt g (ruleAt g n))) (w .holds) h v
-              (λ c d s. IDP⁺.one n c d (IDP.direct n c d (arc-dp g good n c d s)))
-              (λ r c d l s.
-                  ⊎-elim (λ m. inl (m, s .1))
-                  (λ m.
-                      let t : DP g n c d = subst (λ (q : ℕ). DP g q c d) m (s .1) in
-                      inr (m, dp-small g good n c d h t, dp-arc g good n c d t))
-                  (below-suc r n (let k = s .0 in omega arith)));
-          frame = frame-then g entry rows after (w .frame) (frame-turn g rows after n (occurrencesOf g n) _ h v)
+        bound = omega arith;
+        holds =
+            holds-turn g (λ r a b. (r < n) × DP g r a b) (λ r a b. (r < n + 1) × DP g r a b) (λ r a b. IDP⁺ g r a b) (idp-trans g) rows after n
+            (RuleArc g (ruleAt g n) (functionsAt g (ruleAt g n))) (w .holds) h v
+            (λ c d s. IDP⁺.one n c d (IDP.direct n c d (arc-dp g good n c d s)))
+            (λ r c d l s.
+            ⊎-elim (λ m. inl (m, s .1))
+            (λ m.
+            let t : DP g n c d = subst (λ (q : ℕ). DP g q c d) m (s .1) in
+            inr (m, dp-small g good n c d h t, dp-arc g good n c d t))
+            (below-suc r n (let k = s .0 in omega arith)));
+        frame = frame-then g entry rows after (w .frame) (frame-turn g rows after n (occurrencesOf g n) _ h v);
       }
 
   pub filling-finish : (entry rows : List ℕ) (n count : ℕ) → Filling g entry n rows → count ≡ rules g → count ≤ n → Induced g rows × Frame g entry rows
-  filling-finish entry rows n count w e h =
-      (holds-lower g (λ r a b. (r < n) × DP g r a b) (λ r a b. DP g r a b) (λ r a b. IDP⁺ g r a b) rows (w .holds) (λ r a b l d. (omega arith, d)),
-      w .frame)
+  filling-finish entry rows n count w e h = (
+    holds-lower g (λ r a b. (r < n) × DP g r a b) (λ r a b. DP g r a b) (λ r a b. IDP⁺ g r a b) rows (w .holds) (λ r a b l d. (omega arith, d)),
+    w .frame,
+  )
 
   -- ---- step 2
 
@@ -172,12 +173,12 @@ module _ (g : List ℕ) (good : readTable g ≡ Good) where
       arcs-after x k t =
           ⊎-elim (λ s. w .standing .arcs x k s)
           (λ s.
-              let i : ℕ = s .0 in
-              let f : symbolOf g n i ≡ x = sym (symbol-same g n i) ∙ s .2 in
-              let l : i ≤ rightLength g n = (let m = s .1 in omega arith) in
-              subst (λ (y : ℕ). IDS g y (k / 8) (k % 8)) f
-              (gathered-ids mid holds-mid n i k h l
-              (subst⁻¹ (λ (y : ℕ). T (hasb k (arcsAt mid (64 * n) i (attributes g y)))) f (s .3))))
+          let i : ℕ = s .0 in
+          let f : symbolOf g n i ≡ x = sym (symbol-same g n i) ∙ s .2 in
+          let l : i ≤ rightLength g n = (let m = s .1 in omega arith) in
+          subst (λ (y : ℕ). IDS g y (k / 8) (k % 8)) f
+          (gathered-ids mid holds-mid n i k h l
+          (subst⁻¹ (λ (y : ℕ). T (hasb k (arcsAt mid (64 * n) i (attributes g y)))) f (s .3))))
           (z .sound x k t)
 
       spreads : (r i k : ℕ) → r < n + 1 → i ≤ rightLength g r → T (hasb k (word before (symbolOf g r i)))
@@ -186,25 +187,25 @@ module _ (g : List ℕ) (good : readTable g ≡ Good) where
       spreads r i k l m t =
           ⊎-elim
           (λ s.
-              rows-keep rows mid n (occurrencesOf g n) _ v r (8 * i + k / 8) (8 * i + k % 8)
-              (among-small g r (8 * i + k / 8)
-              (arc-among ids (w .standing .arcs) r i k (omega arith) m (w .rounded .grows (symbolOf g r i) k t) .0))
-              (w .rounded .spreads r i k s m t))
+          rows-keep rows mid n (occurrencesOf g n) _ v r (8 * i + k / 8) (8 * i + k % 8)
+          (among-small g r (8 * i + k / 8)
+          (arc-among ids (w .standing .arcs) r i k (omega arith) m (w .rounded .grows (symbolOf g r i) k t) .0))
+          (w .rounded .spreads r i k s m t))
           (λ s.
-              subst⁻¹ (λ (j : ℕ). T (leads mid (64 * j) (8 * i + k / 8) (8 * i + k % 8))) s
-              (v .has (8 * i + k / 8) (8 * i + k % 8)
-              (record {
-                  place = i;
-                  placeFits = (let y : i ≤ rightLength g n = subst (λ (j : ℕ). i ≤ rightLength g j) s m in omega arith);
-                  arc = record {
-                      number = k;
-                      member =
-                          subst⁻¹ (λ (x : ℕ). T (hasb k (word ids x))) (symbol-same g n i)
-                          (w .rounded .grows (symbolOf g n i) k (subst (λ (j : ℕ). T (hasb k (word before (symbolOf g j i)))) s t));
-                      start = refl;
-                      end = refl
-                  }
-              })))
+          subst⁻¹ (λ (j : ℕ). T (leads mid (64 * j) (8 * i + k / 8) (8 * i + k % 8))) s
+          (v .has (8 * i + k / 8) (8 * i + k % 8)
+          (record {
+            place = i;
+            placeFits = (let y : i ≤ rightLength g n = subst (λ (j : ℕ). i ≤ rightLength g j) s m in omega arith);
+            arc = record {
+              number = k;
+              member =
+                  subst⁻¹ (λ (x : ℕ). T (hasb k (word ids x))) (symbol-same g n i)
+                  (w .rounded .grows (symbolOf g n i) k (subst (λ (j : ℕ). T (hasb k (word before (symbolOf g j i)))) s t));
+              start = refl;
+              end = refl;
+            };
+          })))
           (below-suc r n (omega arith))
 
       gathers : (r i k : ℕ) → r < n + 1 → i ≤ rightLength g r → T (hasb k (arcsAt mid (64 * r) i (attributes g (symbolOf g r i))))
@@ -213,53 +214,53 @@ module _ (g : List ℕ) (good : readTable g ≡ Good) where
       gathers r i k l m t =
           ⊎-elim
           (λ s.
-              let c : ℕ = attributes g (symbolOf g r i) in
-              let small : k < 64 = hasb-below 64 k _ (arcs-lt mid (64 * r) i c) t in
-              let short = formed .rule r (omega arith) .lengthFits in
-              let y = subst (λ (b : Bool). T b) (arc-at mid (64 * r) i c k small) t in
-              z .keeps (symbolOf g r i) k
-              (w .rounded .gathers r i k s m
-              (subst⁻¹ (λ (b : Bool). T b) (arc-at rows (64 * r) i c k small)
-              (and-intro _ _ (and-left _ _ y)
-              (subst (λ (b : Bool). T b)
-              (rows-other rows mid n (occurrencesOf g n) _ v r (8 * i + k / 8) (8 * i + k % 8) (λ d. omega arith) (omega (arith, short)))
-              (and-right _ _ y))))))
+          let c : ℕ = attributes g (symbolOf g r i) in
+          let small : k < 64 = hasb-below 64 k _ (arcs-lt mid (64 * r) i c) t in
+          let short = formed .rule r (omega arith) .lengthFits in
+          let y = subst (λ (b : Bool). T b) (arc-at mid (64 * r) i c k small) t in
+          z .keeps (symbolOf g r i) k
+          (w .rounded .gathers r i k s m
+          (subst⁻¹ (λ (b : Bool). T b) (arc-at rows (64 * r) i c k small)
+          (and-intro _ _ (and-left _ _ y)
+          (subst (λ (b : Bool). T b)
+          (rows-other rows mid n (occurrencesOf g n) _ v r (8 * i + k / 8) (8 * i + k % 8) (λ d. omega arith) (omega (arith, short)))
+          (and-right _ _ y))))))
           (λ s.
-              subst⁻¹ (λ (j : ℕ). T (hasb k (word after (symbolOf g j i)))) s
-              (subst (λ (x : ℕ). T (hasb k (word after x))) (symbol-same g n i)
-              (z .has i k (let y : i ≤ rightLength g n = subst (λ (j : ℕ). i ≤ rightLength g j) s m in omega arith)
-              (subst⁻¹ (λ (x : ℕ). T (hasb k (arcsAt mid (64 * n) i (attributes g x)))) (symbol-same g n i)
-              (subst (λ (j : ℕ). T (hasb k (arcsAt mid (64 * j) i (attributes g (symbolOf g j i))))) s t)))))
+          subst⁻¹ (λ (j : ℕ). T (hasb k (word after (symbolOf g j i)))) s
+          (subst (λ (x : ℕ). T (hasb k (word after x))) (symbol-same g n i)
+          (z .has i k (let y : i ≤ rightLength g n = subst (λ (j : ℕ). i ≤ rightLength g j) s m in omega arith)
+          (subst⁻¹ (λ (x : ℕ). T (hasb k (arcsAt mid (64 * n) i (attributes g x)))) (symbol-same g n i)
+          (subst (λ (j : ℕ). T (hasb k (arcsAt mid (64 * j) i (attributes g (symbolOf g j i))))) s t)))))
           (below-suc r n (omega arith))
 
       pub turned-turn : Turned g entry before (n + 1) mid after
       turned-turn =
           record {
-              standing = record {
-                  holds = holds-mid;
-                  frame = frame-then g entry rows mid (w .standing .frame) (frame-turn g rows mid n (occurrencesOf g n) _ h v);
-                  sized = z .size ∙ w .standing .sized;
-                  arcs = arcs-after
-              };
-              rounded = record {
-                  size = z .size ∙ w .rounded .size;
-                  grows = λ x k t. z .keeps x k (w .rounded .grows x k t);
-                  spreads = spreads;
-                  gathers = gathers
-              }
+            standing = record {
+              holds = holds-mid;
+              frame = frame-then g entry rows mid (w .standing .frame) (frame-turn g rows mid n (occurrencesOf g n) _ h v);
+              sized = z .size ∙ w .standing .sized;
+              arcs = arcs-after;
+            };
+            rounded = record {
+              size = z .size ∙ w .rounded .size;
+              grows = λ x k t. z .keeps x k (w .rounded .grows x k t);
+              spreads = spreads;
+              gathers = gathers;
+            };
           }
 
 -- before the first rule of a round
 pub turned-start : (g entry rows ids : List ℕ) → Standing g entry rows ids → Turned g entry ids 0 rows ids
 turned-start g entry rows ids w =
     record {
-        standing = w;
-        rounded = record {
-            size = refl;
-            grows = λ x k t. t;
-            spreads = λ r i k h. absurd (omega arith);
-            gathers = λ r i k h. absurd (omega arith)
-        }
+      standing = w;
+      rounded = record {
+        size = refl;
+        grows = λ x k t. t;
+        spreads = λ r i k h. absurd (omega arith);
+        gathers = λ r i k h. absurd (omega arith);
+      };
     }
 
 -- and after the last

@@ -49,6 +49,6 @@ module _ (g : List ℕ) (paths : ℕ → ℕ → ℕ → Bool) where
             let m : o < 64 = omega arith in
             hasb-ext 64 (word rows j) (collect 64 (λ b. paths r o b)) (fits j l) (collect-lt 64 (λ b. paths r o b))
             (λ b k.
-                ap (λ (i : ℕ). hasb b (word rows i)) (sym e)
-                ∙ (same r o b h m k ∙ sym (hasb-collect 64 b (λ b. paths r o b) k)))
+            ap (λ (i : ℕ). hasb b (word rows i)) (sym e)
+            ∙ (same r o b h m k ∙ sym (hasb-collect 64 b (λ b. paths r o b) k)))
             ∙ (sym (over-row g paths lent r o h m) ∙ ap (λ (i : ℕ). word (over (rowsOf g paths) lent) i) e)

@@ -14,7 +14,19 @@ use Rattle.basics.specs.Lists.{tabulate, padded}
 use Rattle.basics.proofs.ListLaws.{length-tabulate, getD-tabulate}
 use Rattle.grammar.specs.declared.Verdict.the-variants.{Good}
 use Rattle.grammar.specs.Table.{
-    rules, attributes, functionsAt, functions, ruleAt, rightLength, symbolOf, target, operation, argument, arguments, occurrence, ruleCounts
+  rules,
+  attributes,
+  functionsAt,
+  functions,
+  ruleAt,
+  rightLength,
+  symbolOf,
+  target,
+  operation,
+  argument,
+  arguments,
+  occurrence,
+  ruleCounts,
 }
 use Rattle.grammar.specs.Reading.{readTable}
 use Rattle.grammar.specs.WellFormed.{WellFormed, SymbolFormed}
@@ -71,14 +83,14 @@ module _ (g : List ℕ) (good : readTable g ≡ Good) where
   rule-ruled r h =
       let w = formed .rule r h in
       record {
-          near = near r h;
-          shaped = record {
-              short = w .lengthFits;
-              formed = λ i l.
-                  subst⁻¹ (λ (x : ℕ). SymbolFormed g x) (symbol-same g r i) (formed .symbol (symbolOf g r i) (w .symbolsFit i l))
-          };
-          few = w .functionsFit;
-          symbolFits = λ i l. omega (arith, symbol-same g r i, w .symbolsFit i l, formed .symbolsFit)
+        near = near r h;
+        shaped = record {
+          short = w .lengthFits;
+          formed = λ i l.
+              subst⁻¹ (λ (x : ℕ). SymbolFormed g x) (symbol-same g r i) (formed .symbol (symbolOf g r i) (w .symbolsFit i l));
+        };
+        few = w .functionsFit;
+        symbolFits = λ i l. omega (arith, symbol-same g r i, w .symbolsFit i l, formed .symbolsFit);
       }
 
   pub ruled : (r p : ℕ) → r < rules g → p ≡ ruleAt g r → Ruled g p
@@ -90,8 +102,8 @@ module _ (g : List ℕ) (good : readTable g ≡ Good) where
   rule-functions r h k l =
       let w = formed .function r k h l in
       record {
-          targetFits = occurs-among r (target g r k) h (defining-occurs g r (target g r k) (w .targetDefining));
-          argumentFits = λ j m. occurs-among r (argument g r k j) h (w .argumentOccurs j m)
+        targetFits = occurs-among r (target g r k) h (defining-occurs g r (target g r k) (w .targetDefining));
+        argumentFits = λ j m. occurs-among r (argument g r k j) h (w .argumentOccurs j m);
       }
 
   pub functions-fit : (r p among : ℕ) → r < rules g → p ≡ ruleAt g r → among ≡ occurrencesAt g p → FunctionsFit g p among
@@ -103,21 +115,21 @@ module _ (g : List ℕ) (good : readTable g ≡ Good) where
   unfolding functions target argument arguments operation argumentsAt
   dp-arc r a b d =
       record {
-          function = d .function;
-          functionFits = d .functionFits;
-          arc = record { place = d .place; placeFits = d .placeFits; argument = sym (d .argumentIs); target = sym (d .targetIs) }
+        function = d .function;
+        functionFits = d .functionFits;
+        arc = record { place = d .place; placeFits = d .placeFits; argument = sym (d .argumentIs); target = sym (d .targetIs) };
       }
 
   pub arc-dp : (r a b : ℕ) → RuleArc g (ruleAt g r) (functionsAt g (ruleAt g r)) a b → DP g r a b
   unfolding functions target argument arguments operation argumentsAt
   arc-dp r a b d =
       record {
-          function = d .function;
-          functionFits = d .functionFits;
-          targetIs = sym (d .arc .target);
-          place = d .arc .place;
-          placeFits = d .arc .placeFits;
-          argumentIs = sym (d .arc .argument)
+        function = d .function;
+        functionFits = d .functionFits;
+        targetIs = sym (d .arc .target);
+        place = d .arc .place;
+        placeFits = d .arc .placeFits;
+        argumentIs = sym (d .arc .argument);
       }
 
   pub dp-small : (r a b : ℕ) → r < rules g → DP g r a b → a < 64

@@ -53,11 +53,11 @@ module _ (entry : List ℕ) (base among : ℕ) (g : List ℕ) (p : ℕ) (arcs : 
   spread-turn rows n i x after v fits f e h q u =
       closes-then entry base among rows after (SpreadArc g p arcs i) (ArcAt i (word arcs x)) (SpreadArc g p arcs (i + 1)) v u
       (λ c d s.
-          ⊎-elim (λ l. inl (small c d s, v .has c d (record { place = s .place; placeFits = l; arc = s .arc })))
-          (λ l.
-              inr (subst⁻¹ (λ (y : ℕ). ArcAt i (word arcs y) c d) q
-              (subst (λ (j : ℕ). ArcAt j (word arcs (symbolFrom g p j)) c d) l (s .arc))))
-          (below-suc (s .place) i (omega (arith, s .placeFits))))
+      ⊎-elim (λ l. inl (small c d s, v .has c d (record { place = s .place; placeFits = l; arc = s .arc })))
+      (λ l.
+      inr (subst⁻¹ (λ (y : ℕ). ArcAt i (word arcs y) c d) q
+      (subst (λ (j : ℕ). ArcAt j (word arcs (symbolFrom g p j)) c d) l (s .arc))))
+      (below-suc (s .place) i (omega (arith, s .placeFits))))
       (λ c d s. record { place = s .place; placeFits = omega (arith, s .placeFits); arc = s .arc })
       (λ c d s. record { place = i; placeFits = omega arith; arc = subst (λ (y : ℕ). ArcAt i (word arcs y) c d) q s })
     where
@@ -75,33 +75,36 @@ module _ (g : List ℕ) (p : ℕ) (rows : List ℕ) (base : ℕ) (ids : List ℕ
   pub gather-start : Gathered g p rows base 0 ids ids
   gather-start =
       record {
-          size = refl;
-          keeps = λ x k t. t;
-          has = λ i k h t. absurd (omega arith);
-          sound = λ x k t. inl t
+        size = refl;
+        keeps = λ x k t. t;
+        has = λ i k h t. absurd (omega arith);
+        sound = λ x k t. inl t;
       }
 
   pub gather-turn : (mid : List ℕ) (i x count arcs v : ℕ) → Gathered g p rows base i ids mid → x < length mid → x ≡ symbolFrom g p i
       → count ≡ attributes g x → arcs ≡ arcsAt rows base i count → v ≡ union (getD mid x 0) arcs → Gathered g p rows base (i + 1) ids (set mid x v)
   gather-turn mid i x count arcs v w h q c a e =
       record {
-          size = length-set mid x v ∙ w .size;
-          keeps = λ y k t. keep y k (w .keeps y k t);
-          has = λ j k l t. ⊎-elim (λ m. keep (symbolFrom g p j) k (w .has j k m t)) (λ m. new j k m t) (below-suc j i (omega arith));
-          sound = λ y k t. ⊎-elim (λ s. here y k s t) (λ s. old y k (subst (λ (z : ℕ). T (hasb k z)) (getD-set-other mid x y v 0 s) t)) (same-or-not y x)
+        size = length-set mid x v ∙ w .size;
+        keeps = λ y k t. keep y k (w .keeps y k t);
+        has = λ j k l t. ⊎-elim (λ m. keep (symbolFrom g p j) k (w .has j k m t)) (λ m. new j k m t) (below-suc j i (omega arith));
+        sound = λ y k t. ⊎-elim (λ s. here y k s t) (λ s. old y k (subst (λ (z : ℕ). T (hasb k z)) (getD-set-other mid x y v 0 s) t)) (same-or-not y x);
       }
     where
       same : word (set mid x v) x ≡ union (word mid x) arcs
       same = getD-set-same mid x v 0 h ∙ e
+
       keep : (y k : ℕ) → T (hasb k (word mid y)) → T (hasb k (word (set mid x v) y))
       keep y k t =
           ⊎-elim
           (λ s.
-              subst⁻¹ (λ (z : ℕ). T (hasb k (word (set mid x v) z))) s
-              (subst⁻¹ (λ (z : ℕ). T (hasb k z)) same (union-left k (word mid x) arcs (subst (λ (z : ℕ). T (hasb k (word mid z))) s t))))
+          subst⁻¹ (λ (z : ℕ). T (hasb k (word (set mid x v) z))) s
+          (subst⁻¹ (λ (z : ℕ). T (hasb k z)) same (union-left k (word mid x) arcs (subst (λ (z : ℕ). T (hasb k (word mid z))) s t))))
           (λ s. subst⁻¹ (λ (z : ℕ). T (hasb k z)) (getD-set-other mid x y v 0 s) t) (same-or-not y x)
+
       count-is : arcs ≡ arcsAt rows base i (attributes g x)
       count-is = a ∙ ap (arcsAt rows base i) c
+
       new : (j k : ℕ) → j ≡ i → T (hasb k (arcsAt rows base j (attributes g (symbolFrom g p j)))) → T (hasb k (word (set mid x v) (symbolFrom g p j)))
       new j k m t =
           subst⁻¹ (λ (z : ℕ). T (hasb k (word (set mid x v) (symbolFrom g p z)))) m
@@ -110,16 +113,22 @@ module _ (g : List ℕ) (p : ℕ) (rows : List ℕ) (base : ℕ) (ids : List ℕ
           (union-right k (word mid x) arcs
           (subst⁻¹ (λ (z : ℕ). T (hasb k z)) (count-is ∙ ap (λ (y : ℕ). arcsAt rows base i (attributes g y)) q)
           (subst (λ (z : ℕ). T (hasb k (arcsAt rows base z (attributes g (symbolFrom g p z))))) m t)))))
+
       old : (y k : ℕ) → T (hasb k (word mid y))
           → T (hasb k (word ids y)) ⊎ ((j : ℕ) × (j < i + 1) × (symbolFrom g p j ≡ y) × T (hasb k (arcsAt rows base j (attributes g y))))
       old y k t = ⊎-elim (λ s. inl s) (λ s. inr (s .0, omega (arith, s .1), s .2, s .3)) (w .sound y k t)
+
       here : (y k : ℕ) → y ≡ x → T (hasb k (word (set mid x v) y))
           → T (hasb k (word ids y)) ⊎ ((j : ℕ) × (j < i + 1) × (symbolFrom g p j ≡ y) × T (hasb k (arcsAt rows base j (attributes g y))))
       here y k s t =
           ⊎-elim (λ l. old y k (subst⁻¹ (λ (z : ℕ). T (hasb k (word mid z))) s l))
           (λ l.
-              inr (i, omega arith, sym (s ∙ q),
-              subst (λ (z : ℕ). T (hasb k z)) (count-is ∙ ap (λ (z : ℕ). arcsAt rows base i (attributes g z)) (sym s)) l))
+          inr (
+            i,
+            omega arith,
+            sym (s ∙ q),
+            subst (λ (z : ℕ). T (hasb k z)) (count-is ∙ ap (λ (z : ℕ). arcsAt rows base i (attributes g z)) (sym s)) l,
+          ))
           (union-cases k (word mid x) arcs (subst (λ (z : ℕ). T (hasb k z)) same (subst (λ (z : ℕ). T (hasb k (word (set mid x v) z))) s t)))
 
   pub gather-finish : (after : List ℕ) (n i : ℕ) → Gathered g p rows base i ids after → n ≡ lengthAt g p → i ≤ n + 1 → n + 1 ≤ i

@@ -194,7 +194,14 @@ fn round(words: &[u16], offsets: &Offsets, rows: &mut [u64], ids: &mut [u64; 32]
     let count = access::word(words, 1);
     for r in 0..count {
         let p = rule_at(offsets, r);
-        spread(words, p, rows, 64 * r, access::occurrence_set(words, p), ids);
+        spread(
+            words,
+            p,
+            rows,
+            64 * r,
+            access::occurrence_set(words, p),
+            ids,
+        );
         gather(words, p, rows, 64 * r, ids);
     }
 }

@@ -50,7 +50,7 @@ unfolding digits
 digits-short zero d n h = omega arith
 digits-short (suc k) zero n h =
     let e : length (digits (suc k) n) ≡ 1 =
-            ap length (chosen (ltb n 10) ((48 + n) ∷ []) (digits k (n / 10) ++ ((48 + n % 10) ∷ [])) (lt→ltb n 10 (let z : 10 ^ 1 ≡ 10 = refl in omega (arith, z)))) in
+    ap length (chosen (ltb n 10) ((48 + n) ∷ []) (digits k (n / 10) ++ ((48 + n % 10) ∷ [])) (lt→ltb n 10 (let z : 10 ^ 1 ≡ 10 = refl in omega (arith, z)))) in
     omega (arith, e)
 digits-short (suc k) (suc d) n h = go (ltb n 10) (digits-short k d (n / 10) (omega (arith, pow-suc 10 (suc d))))
   where
@@ -112,19 +112,25 @@ module _ (g : List ℕ) (good : readTable g ≡ Good) where
     where
       few : attributes g x ≤ 8
       few = w .symbol x h .attributesFit
+
       each : Each 3 (x ∷ visits s x ∷ tabulate (attributes g x) (λ a. setNumber s x a))
       each zero l = small x (omega (arith, w .symbolsFit))
       each (suc zero) l = small (visits s x) (omega (arith, visits-five g (idsOf g) x))
       each (suc (suc a)) l =
           let size : length (tabulate (attributes g x) (λ a. setNumber s x a)) ≡ attributes g x = length-tabulate (attributes g x) (λ a. setNumber s x a) in
           let is : getD (tabulate (attributes g x) (λ a. setNumber s x a)) a 0 ≡ setNumber s x a =
-                  getD-tabulate (attributes g x) (λ a. setNumber s x a) 0 a (omega (arith, size)) in
+          getD-tabulate (attributes g x) (λ a. setNumber s x a) 0 a (omega (arith, size)) in
           small (getD (tabulate (attributes g x) (λ a. setNumber s x a)) a 0)
           (omega (arith, is, number-nine g (idsOf g) x a (omega (arith, size, few))))
+
       go : (b : Bool) → length (cond b (line symbolWord (x ∷ visits s x ∷ tabulate (attributes g x) (λ a. setNumber s x a))) []) ≤ 42
       go true =
-          omega (arith, line-short 3 symbolWord (x ∷ visits s x ∷ tabulate (attributes g x) (λ a. setNumber s x a)) each,
-          length-tabulate (attributes g x) (λ a. setNumber s x a), few)
+          omega (
+            arith,
+            line-short 3 symbolWord (x ∷ visits s x ∷ tabulate (attributes g x) (λ a. setNumber s x a)) each,
+            length-tabulate (attributes g x) (λ a. setNumber s x a),
+            few,
+          )
       go false = omega arith
 
   rule-short : (r : ℕ) → r < rules g → length (ruleLine g r) ≤ 422
@@ -141,10 +147,16 @@ module _ (g : List ℕ) (good : readTable g ≡ Good) where
   plan-short : length (planText g) ≤ 28365
   unfolding planText
   plan-short =
-      omega (arith, length-append (firstLine g) (blocks (symbols g) (λ x. symbolLine g s x) ++ blocks (rules g) (λ r. ruleLine g r)),
-      length-append (blocks (symbols g) (λ x. symbolLine g s x)) (blocks (rules g) (λ r. ruleLine g r)), first-short,
-      blocks-short 42 (symbols g) (λ x. symbolLine g s x) symbol-short, blocks-short 422 (rules g) (λ r. ruleLine g r) rule-short,
-      w .symbolsFit, w .rulesFit)
+      omega (
+        arith,
+        length-append (firstLine g) (blocks (symbols g) (λ x. symbolLine g s x) ++ blocks (rules g) (λ r. ruleLine g r)),
+        length-append (blocks (symbols g) (λ x. symbolLine g s x)) (blocks (rules g) (λ r. ruleLine g r)),
+        first-short,
+        blocks-short 42 (symbols g) (λ x. symbolLine g s x) symbol-short,
+        blocks-short 422 (rules g) (λ r. ruleLine g r) rule-short,
+        w .symbolsFit,
+        w .rulesFit,
+      )
 
 table-short : (g : List ℕ) → length (tableText g) ≤ 28365
 unfolding tableText

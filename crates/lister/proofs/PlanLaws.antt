@@ -126,7 +126,7 @@ module _ (g : List ℕ) (good : readTable g ≡ Good) (lent : List ℕ) where
   actions-same r h =
       let out : List ℕ = sequenceOf g (idsOf g) s r in
       let long : length (actionsOf p r) ≡ length (sequenceOf g (idsOf g) s r) =
-              length-tabulate (sequenceLength p r) (λ j. actionAt p r j) ∙ sequence-stands g lent r h .lengthIs in
+      length-tabulate (sequenceLength p r) (λ j. actionAt p r j) ∙ sequence-stands g lent r h .lengthIs in
       ext-getD 0 (actionsOf p r) (sequenceOf g (idsOf g) s r) long
       (λ j l. getD-tabulate (sequenceLength p r) (λ k. actionAt p r k) 0 j (omega (arith, long, sequence-stands g lent r h .lengthIs))
       ∙ sequence-stands g lent r h .actionIs j (omega (arith, long)))

@@ -27,14 +27,14 @@ module _ (lent text out : List ℕ) (at : ℕ) (s : Shows lent text out at) wher
       let all : take (length lent) text ≡ text = take-all (length lent) text (omega arith) in
       let more : take (length lent) (text ++ (b ∷ [])) ≡ text ++ (b ∷ []) = take-all (length lent) (text ++ (b ∷ [])) (omega (arith, size)) in
       record {
-          counted = omega (arith, size);
-          shown =
-              ap (λ (l : List ℕ). set l at b)
-              (s .shown ∙ (ap (λ (l : List ℕ). l ++ drop (length l) lent) all ∙ ap (λ (l : List ℕ). text ++ l) (drop-cons lent (length text) 0 room)))
-              ∙ (set-at text (getD lent (length text) 0) (drop (suc (length text)) lent) b at here
-              ∙ (sym (append-snoc text b (drop (suc (length text)) lent))
-              ∙ (ap (λ (n : ℕ). (text ++ (b ∷ [])) ++ drop n lent) (sym size)
-              ∙ ap (λ (l : List ℕ). l ++ drop (length l) lent) (sym more))))
+        counted = omega (arith, size);
+        shown =
+            ap (λ (l : List ℕ). set l at b)
+            (s .shown ∙ (ap (λ (l : List ℕ). l ++ drop (length l) lent) all ∙ ap (λ (l : List ℕ). text ++ l) (drop-cons lent (length text) 0 room)))
+            ∙ (set-at text (getD lent (length text) 0) (drop (suc (length text)) lent) b at here
+            ∙ (sym (append-snoc text b (drop (suc (length text)) lent))
+            ∙ (ap (λ (n : ℕ). (text ++ (b ∷ [])) ++ drop n lent) (sym size)
+            ∙ ap (λ (l : List ℕ). l ++ drop (length l) lent) (sym more))));
       }
 
   no-room : (b : ℕ) → length out ≤ at → Shows lent (text ++ (b ∷ [])) out at
@@ -42,8 +42,8 @@ module _ (lent text out : List ℕ) (at : ℕ) (s : Shows lent text out at) wher
       let full : length lent ≤ length text = omega (arith, s .counted, shown-size) in
       let size : length (text ++ (b ∷ [])) ≡ suc (length text) = omega (arith, length-append text (b ∷ [])) in
       record {
-          counted = omega (arith, s .counted, size);
-          shown = s .shown ∙ ap (λ (l : List ℕ). over l lent) (sym (take-append-le (length lent) text (b ∷ []) full))
+        counted = omega (arith, s .counted, size);
+        shown = s .shown ∙ ap (λ (l : List ℕ). over l lent) (sym (take-append-le (length lent) text (b ∷ []) full));
       }
 
 -- the one byte of put
@@ -60,9 +60,9 @@ adds-none out at = record { kept = refl; goesOn = λ lent text s. subst⁻¹ (λ
 pub adds-then : {o o₁ o₂ x y : List ℕ} {a a₁ a₂ : ℕ} → Adds o a x o₁ a₁ → Adds o₁ a₁ y o₂ a₂ → Adds o a (x ++ y) o₂ a₂
 adds-then {o₂ = o₂} {x = x} {y = y} {a₂ = a₂} f g =
     record {
-        kept = g .kept ∙ f .kept;
-        goesOn = λ lent text s.
-            subst (λ (t : List ℕ). Shows lent t o₂ a₂) (append-assoc text x y) (g .goesOn lent (text ++ x) (f .goesOn lent text s))
+      kept = g .kept ∙ f .kept;
+      goesOn = λ lent text s.
+          subst (λ (t : List ℕ). Shows lent t o₂ a₂) (append-assoc text x y) (g .goesOn lent (text ++ x) (f .goesOn lent text s));
     }
 
 pub adds-same : {o o₁ x y : List ℕ} {a a₁ : ℕ} → x ≡ y → Adds o a x o₁ a₁ → Adds o a y o₁ a₁

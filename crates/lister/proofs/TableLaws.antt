@@ -43,11 +43,11 @@ pub words-turn : (bytes lent words : List ℕ) (i n : ℕ) → length bytes / 2 
     → n ≡ getD bytes (2 * i) 0 + 256 * getD bytes (2 * i + 1) 0 → Words bytes lent (set words i n) (i + 1)
 words-turn bytes lent words i n room k h e =
     record {
-        inside = omega arith;
-        kept = length-set words i n ∙ k .kept;
-        written =
-            ap₂ (λ (l : List ℕ) (m : ℕ). set l i m) (k .written) e
-            ∙ more lent (λ j. littleEndian bytes j) i (omega (arith, room))
+      inside = omega arith;
+      kept = length-set words i n ∙ k .kept;
+      written =
+          ap₂ (λ (l : List ℕ) (m : ℕ). set l i m) (k .written) e
+          ∙ more lent (λ j. littleEndian bytes j) i (omega (arith, room));
     }
   where
     more : (lent : List ℕ) (f : ℕ → ℕ) (i : ℕ) → i < length lent → set (over (tabulate i f) lent) i (f i) ≡ over (tabulate (i + 1) f) lent
@@ -139,5 +139,5 @@ unfolding over wordsOf
 words-there bytes words buffer e =
     let size : length (wordsOf bytes) ≡ length bytes / 2 = length-tabulate (length bytes / 2) (λ k. littleEndian bytes k) in
     let all : length words ≡ length (wordsOf bytes) + length (drop (length (wordsOf bytes)) buffer) =
-            ap length e ∙ length-append (wordsOf bytes) (drop (length (wordsOf bytes)) buffer) in
+    ap length e ∙ length-append (wordsOf bytes) (drop (length (wordsOf bytes)) buffer) in
     sym (length-take-le (length bytes / 2) words (omega (arith, size, all)))

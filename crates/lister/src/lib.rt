@@ -5,7 +5,6 @@ use grammar::RULE_WORDS;
 use grammar::SET_WORDS;
 use plans::Planned;
 use refusals::Refusal;
-
 ghost use mathlib.Core.Path.{_≡_};
 ghost use mathlib.Core.List.{[], _∷_};
 ghost use Prim.Native.Nat.{_+_, _*_, _/_, _≤_, _<_, min};

@@ -1,5 +1,7 @@
 // Lists the plan of the table on standard input, or says why there is none.
-use libc::{STDERR_FILENO, STDIN_FILENO, STDOUT_FILENO};
+use libc::STDERR_FILENO;
+use libc::STDIN_FILENO;
+use libc::STDOUT_FILENO;
 
 // A short count of bytes is the whole input only where nothing more can be read and no read fails.
 fn at_end() -> bool {
@@ -19,6 +21,9 @@ fn main() {
     }
     let shown = lister::list(&input[..n], &mut out);
     if !io::write_all(STDOUT_FILENO, &out[..shown]) {
-        io::write_all(STDERR_FILENO, b"listing: standard output cannot be written\n");
+        io::write_all(
+            STDERR_FILENO,
+            b"listing: standard output cannot be written\n",
+        );
     }
 }

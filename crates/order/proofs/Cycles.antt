@@ -37,10 +37,10 @@ module _ (g : List ℕ) (paths : ℕ → ℕ → ℕ → Bool) (lies : ℕ → �
       let c : T (ruleCounts g r) = rule-counts r h in
       let e = least-is mostOccurrences (λ o. paths r o o) in
       record {
-          counts = c;
-          on = exact r (cycleOccurrence g paths) c .0 (e .passes (least-some mostOccurrences (λ o. paths r o o) (rule-some r h)));
-          lowestRule = λ q n l d w. f .lowest q l (has-cycle q n d w);
-          lowestOccurrence = λ n l w. e .lowest n l (exact r n c .1 w)
+        counts = c;
+        on = exact r (cycleOccurrence g paths) c .0 (e .passes (least-some mostOccurrences (λ o. paths r o o) (rule-some r h)));
+        lowestRule = λ q n l d w. f .lowest q l (has-cycle q n d w);
+        lowestOccurrence = λ n l w. e .lowest n l (exact r n c .1 w);
       }
 
   -- where the search finds nothing, nothing lies on a cycle

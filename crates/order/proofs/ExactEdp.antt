@@ -18,8 +18,19 @@ use Rattle.relations.specs.Paper.{Path⁺}
 use Rattle.relations.specs.Computed.{arcIn, idsOf, occurrences}
 use Rattle.relations.proofs.PathLaws.{path-sound, path-complete, path-map}
 use Rattle.relations.proofs.Occurrences.{
-    occurrence-is, position-of, attribute-of, occurs-attribute, occurs-stands, dp-sound, dp-complete, dp-argument, dp-target,
-    stands-symbol, attribute-fits, stands-occurs, occurrences-exact
+  occurrence-is,
+  position-of,
+  attribute-of,
+  occurs-attribute,
+  occurs-stands,
+  dp-sound,
+  dp-complete,
+  dp-argument,
+  dp-target,
+  stands-symbol,
+  attribute-fits,
+  stands-occurs,
+  occurrences-exact,
 }
 use Rattle.relations.proofs.ExactIdp.{ids-exact}
 use Rattle.sets.specs.Visits.{setNumber}
@@ -32,12 +43,12 @@ module _ (g : List ℕ) (good : readTable g ≡ Good) (s : List ℕ) (r : ℕ) (
       → Beside g r (position a) (symbolOf g r (position a)) (attribute a) (attribute b) a b
   beside-of a b t u e k =
       record {
-          stands = occurs-stands g r a c t;
-          nonterminalThere = k;
-          firstFits = occurs-attribute g r a t;
-          secondFits = subst⁻¹ (λ (i : ℕ). attribute b < attributes g (symbolOf g r i)) e (occurs-attribute g r b u);
-          firstIs = occurrence-is a;
-          secondIs = omega arith
+        stands = occurs-stands g r a c t;
+        nonterminalThere = k;
+        firstFits = occurs-attribute g r a t;
+        secondFits = subst⁻¹ (λ (i : ℕ). attribute b < attributes g (symbolOf g r i)) e (occurs-attribute g r b u);
+        firstIs = occurrence-is a;
+        secondIs = omega arith;
       }
 
   beside-sound : (a b : ℕ) → T (besideArc g (idsOf g) s r a b) → EDP g (setNumber s) r a b
@@ -112,8 +123,9 @@ module _ (g : List ℕ) (good : readTable g ≡ Good) (s : List ℕ) (r : ℕ) (
   -- the computed paths of EDP are the paper's
   pub edp-path-exact : (a b : ℕ) → T (edpPath g (idsOf g) s r a b) ↔ Path⁺ (EDP g (setNumber s) r) a b
   unfolding edpPath
-  edp-path-exact a b =
-      (λ t. path-map edp-sound (path-sound _ (occurrences g r) a b t),
-      λ p.
-          path-complete (λ c d. edp g (idsOf g) s r c d) (occurrences g r)
-          (λ m n t. occurrences-exact g (accepted g good) r m c .1 (edp-from m n (edp-sound m n t))) (path-map edp-complete p))
+  edp-path-exact a b = (
+    λ t. path-map edp-sound (path-sound _ (occurrences g r) a b t),
+    λ p.
+        path-complete (λ c d. edp g (idsOf g) s r c d) (occurrences g r)
+        (λ m n t. occurrences-exact g (accepted g good) r m c .1 (edp-from m n (edp-sound m n t))) (path-map edp-complete p),
+  )

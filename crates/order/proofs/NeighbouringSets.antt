@@ -20,7 +20,7 @@ use Rattle.relations.proofs.PathLaws.{path-into}
 module _ (g s : List ℕ) (r : ℕ)
     (placed : (i x a : ℕ) → Stands g r i x → kind g x ≡ 0 → a < attributes g x → 1 ≤ setNumber s x a)
     (onlyFirstEmpty : (i x a j : ℕ) → Stands g r i x → kind g x ≡ 0 → a < attributes g x → 2 ≤ j → j ≤ setNumber s x a
-        → (b : ℕ) × (b < attributes g x) × (setNumber s x b ≡ j)) where
+    → (b : ℕ) × (b < attributes g x) × (setNumber s x b ≡ j)) where
   -- an arc from a higher set, at most n sets above the neighbour, is a path from neighbour to neighbour
   step-down : (n i x a b c d : ℕ) → Beside g r i x a b c d → setNumber s x b < setNumber s x a → setNumber s x a ≤ suc n + setNumber s x b
       → Path⁺ (Neighbouring g (setNumber s) r) c d
@@ -28,25 +28,25 @@ module _ (g s : List ℕ) (r : ℕ)
   step-down (suc n) i x a b c d w h l =
       ⊎-elim
       (λ q.
-          let m = onlyFirstEmpty i x a (suc (setNumber s x b)) (w .stands) (w .nonterminalThere) (w .firstFits)
-                  (omega (arith, placed i x b (w .stands) (w .nonterminalThere) (w .secondFits))) (omega arith) in
-          more
-          (step-down n i x a (m .0) c (occurrenceOf i (m .0)) (record {
-              stands = w .stands;
-              nonterminalThere = w .nonterminalThere;
-              firstFits = w .firstFits;
-              secondFits = m .1;
-              firstIs = w .firstIs;
-              secondIs = refl
-          }) (omega (arith, m .2)) (omega (arith, m .2)))
-          (Neighbouring.next i x (m .0) b (record {
-              stands = w .stands;
-              nonterminalThere = w .nonterminalThere;
-              firstFits = m .1;
-              secondFits = w .secondFits;
-              firstIs = refl;
-              secondIs = w .secondIs
-          }) (m .2)))
+      let m = onlyFirstEmpty i x a (suc (setNumber s x b)) (w .stands) (w .nonterminalThere) (w .firstFits)
+      (omega (arith, placed i x b (w .stands) (w .nonterminalThere) (w .secondFits))) (omega arith) in
+      more
+      (step-down n i x a (m .0) c (occurrenceOf i (m .0)) (record {
+        stands = w .stands;
+        nonterminalThere = w .nonterminalThere;
+        firstFits = w .firstFits;
+        secondFits = m .1;
+        firstIs = w .firstIs;
+        secondIs = refl;
+      }) (omega (arith, m .2)) (omega (arith, m .2)))
+      (Neighbouring.next i x (m .0) b (record {
+        stands = w .stands;
+        nonterminalThere = w .nonterminalThere;
+        firstFits = m .1;
+        secondFits = w .secondFits;
+        firstIs = refl;
+        secondIs = w .secondIs;
+      }) (m .2)))
       (λ q. one (Neighbouring.next i x a b w (omega arith))) (below-or-not (suc (setNumber s x b)) (setNumber s x a))
 
   -- each EDP arc is a path over neighbouring sets
@@ -79,8 +79,8 @@ module _ (g ids : List ℕ) (w : WellFormed g)
   same-paths-of-plan r =
       same-paths g (setsOf g ids) r
       (λ i x a t n l.
-          let f = symbol-fits r i x t in
-          word-placed g ids x (omega (arith, w .symbolsFit)) f n (w .symbol x f .attributesFit) (transitive x f n) (acyclic x f n) a l)
+      let f = symbol-fits r i x t in
+      word-placed g ids x (omega (arith, w .symbolsFit)) f n (w .symbol x f .attributesFit) (transitive x f n) (acyclic x f n) a l)
       (λ i x a j t n l.
-          let f = symbol-fits r i x t in
-          word-only-first-empty g ids x (omega (arith, w .symbolsFit)) f n (w .symbol x f .attributesFit) (transitive x f n) (acyclic x f n) a j l)
+      let f = symbol-fits r i x t in
+      word-only-first-empty g ids x (omega (arith, w .symbolsFit)) f n (w .symbol x f .attributesFit) (transitive x f n) (acyclic x f n) a j l)

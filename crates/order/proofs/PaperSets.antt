@@ -30,30 +30,30 @@ module _ (g : List ℕ) (x : ℕ) (R S : ℕ → ℕ → Type 0) (set : ℕ → 
   collection-along : (k : ℕ) (member : ℕ → Type 0) → Collection g x R set k member → Collection g x S set k member
   collection-along k member c =
       record {
-          attributeOf = c .attributeOf;
-          unplaced = c .unplaced;
-          class = c .class;
-          successors = λ a b m e. c .successors a b m (back a b e)
+        attributeOf = c .attributeOf;
+        unplaced = c .unplaced;
+        class = c .class;
+        successors = λ a b m e. c .successors a b m (back a b e);
       }
 
   collection-back : (k : ℕ) (member : ℕ → Type 0) → Collection g x S set k member → Collection g x R set k member
   collection-back k member c =
       record {
-          attributeOf = c .attributeOf;
-          unplaced = c .unplaced;
-          class = c .class;
-          successors = λ a b m e. c .successors a b m (forth a b e)
+        attributeOf = c .attributeOf;
+        unplaced = c .unplaced;
+        class = c .class;
+        successors = λ a b m e. c .successors a b m (forth a b e);
       }
 
   pub sets-along : Sets g x R set → Sets g x S set
   sets-along s =
       record {
-          each = λ k h. record {
-              collection = collection-along k (λ a. set a ≡ k) (s .each k h .collection);
-              largest = λ member c. s .each k h .largest member (collection-back k member c)
-          };
-          placed = s .placed;
-          nothing = s .nothing
+        each = λ k h. record {
+          collection = collection-along k (λ a. set a ≡ k) (s .each k h .collection);
+          largest = λ member c. s .each k h .largest member (collection-back k member c);
+        };
+        placed = s .placed;
+        nothing = s .nothing;
       }
 
 module _ (g : List ℕ) (good : readTable g ≡ Good) (none : CircularIDP g → ⊥) where
@@ -66,9 +66,11 @@ module _ (g : List ℕ) (good : readTable g ≡ Good) (none : CircularIDP g → 
 
   ids-arc : (x a b : ℕ) → IDS g x a b → Arc g (idsOf g) x a b
   ids-arc x a b e =
-      let f = ids-occurs g e in
-      (f .startFits, f .endFits,
-      ids-exact g good x a b (attribute-fits g formed x b (ids-symbol g formed e) (f .endFits)) .1 e)
+      let f = ids-occurs g e in (
+        f .startFits,
+        f .endFits,
+        ids-exact g good x a b (attribute-fits g formed x b (ids-symbol g formed e) (f .endFits)) .1 e,
+      )
 
   -- IDS is transitive and has no cycle
   arcs-transitive : (x : ℕ) → x < symbols g → (a b c : ℕ) → Arc g (idsOf g) x a b → Arc g (idsOf g) x b c → Arc g (idsOf g) x a c

@@ -37,8 +37,8 @@ pub one-numbering : (g : List ℕ) (s t : ℕ → ℕ → ℕ) → PaperSets g s
 one-numbering g s t v w x a =
     ⊎-elim
     (λ h.
-        let n : Nonterminal g x = record { counts = lt→ltb x (symbols g) (h .0); kindIs = h .1 } in
-        sets-one g x (IDS g x) (s x) (t x) (v .ofSymbol x n) (w .ofSymbol x n) a)
+    let n : Nonterminal g x = record { counts = lt→ltb x (symbols g) (h .0); kindIs = h .1 } in
+    sets-one g x (IDS g x) (s x) (t x) (v .ofSymbol x n) (w .ofSymbol x n) a)
     (λ q. let f : ¬ Nonterminal g x = λ n. q (ltb→lt x (symbols g) (n .counts)) (n .kindIs) in v .nothing x a f ∙ sym (w .nothing x a f))
     (nonterminal-or-not g (idsOf g) x)
 
@@ -69,12 +69,12 @@ module _ (g : List ℕ) (wf : WellFormed g) where
       let w = ids-occurs g e in
       EDP.within i x a b
       (record {
-          stands = s;
-          nonterminalThere = nonterminal;
-          firstFits = w .startFits;
-          secondFits = w .endFits;
-          firstIs = f;
-          secondIs = h
+        stands = s;
+        nonterminalThere = nonterminal;
+        firstFits = w .startFits;
+        secondFits = w .endFits;
+        firstIs = f;
+        secondIs = h;
       }) e
     where
       nonterminal : kind g x ≡ 0
@@ -91,11 +91,11 @@ module _ (g : List ℕ) (good : readTable g ≡ Good) (none : CircularIDP g → 
   pub sets-exist : PaperSets g (computedSets g)
   sets-exist =
       record {
-          ofSymbol = λ x n. paper-sets g good none x (ltb→lt x (symbols g) (n .counts)) (n .kindIs);
-          nothing = λ x a q.
-              ap (λ (w : List ℕ). word w a)
-              (zeros-for-others g (idsOf g) x (λ h k. q (record { counts = lt→ltb x (symbols g) h; kindIs = k })))
-              ∙ word-zeros mostAttributes a
+        ofSymbol = λ x n. paper-sets g good none x (ltb→lt x (symbols g) (n .counts)) (n .kindIs);
+        nothing = λ x a q.
+            ap (λ (w : List ℕ). word w a)
+            (zeros-for-others g (idsOf g) x (λ h k. q (record { counts = lt→ltb x (symbols g) h; kindIs = k })))
+            ∙ word-zeros mostAttributes a;
       }
 
   module _ (set : ℕ → ℕ → ℕ) (sets : PaperSets g set) where
@@ -111,23 +111,25 @@ module _ (g : List ℕ) (good : readTable g ≡ Good) (none : CircularIDP g → 
     alike-back x a h l = sym (alike x a h l)
 
     pub edp-same : (r a b : ℕ) → EDP g (setNumber (setsOf g (idsOf g))) r a b ↔ EDP g set r a b
-    edp-same r a b =
-        (edp-along g (accepted g good) (setNumber (setsOf g (idsOf g))) set alike r a b,
-        edp-along g (accepted g good) set (setNumber (setsOf g (idsOf g))) alike-back r a b)
+    edp-same r a b = (
+      edp-along g (accepted g good) (setNumber (setsOf g (idsOf g))) set alike r a b,
+      edp-along g (accepted g good) set (setNumber (setsOf g (idsOf g))) alike-back r a b,
+    )
 
     pub edp-paths-same : (r a b : ℕ) → Path⁺ (EDP g (setNumber (setsOf g (idsOf g))) r) a b ↔ Path⁺ (EDP g set r) a b
     edp-paths-same r a b = (path-map (λ c d. edp-same r c d .0), path-map (λ c d. edp-same r c d .1))
 
     -- "000 adds neighbouring sets only; the paths are equal"
     pub neighbouring-same : (r a b : ℕ) → Path⁺ (EDP g set r) a b ↔ Path⁺ (Neighbouring g set r) a b
-    neighbouring-same r a b =
-        (λ p.
-            path-map (neighbouring-along g (accepted g good) (setNumber (setsOf g (idsOf g))) set alike r)
-            (neighbouring-paths g good none r a b .0 (edp-paths-same r a b .1 p)),
-        λ p.
-            edp-paths-same r a b .0
-            (neighbouring-paths g good none r a b .1
-            (path-map (neighbouring-along g (accepted g good) set (setNumber (setsOf g (idsOf g))) alike-back r) p)))
+    neighbouring-same r a b = (
+      λ p.
+          path-map (neighbouring-along g (accepted g good) (setNumber (setsOf g (idsOf g))) set alike r)
+          (neighbouring-paths g good none r a b .0 (edp-paths-same r a b .1 p)),
+      λ p.
+          edp-paths-same r a b .0
+          (neighbouring-paths g good none r a b .1
+          (path-map (neighbouring-along g (accepted g good) set (setNumber (setsOf g (idsOf g))) alike-back r) p)),
+    )
 
     ordered-along : Ordered g (setNumber (setsOf g (idsOf g))) → Ordered g set
     ordered-along f r o c p = f r o c (edp-paths-same r o o .1 p)
@@ -138,11 +140,12 @@ module _ (g : List ℕ) (good : readTable g ≡ Good) (none : CircularIDP g → 
 -- a grammar is ordered exactly if no IDP and no EDP over the computed sets has a cycle
 pub ordered-computed : (g : List ℕ) → readTable g ≡ Good
     → IsOrdered g ↔ ((CircularIDP g → ⊥) × Ordered g (setNumber (setsOf g (idsOf g))))
-ordered-computed g good =
-    (λ o. let none : CircularIDP g → ⊥ = ordered-idp g (accepted g good) o in (none, ordered-back g good none (o .set) (o .areSets) (o .noCycle)),
-    λ w.
-        record {
-            set = computedSets g;
-            areSets = sets-exist g good (w .0);
-            noCycle = ordered-along g good (w .0) (computedSets g) (sets-exist g good (w .0)) (w .1)
-        })
+ordered-computed g good = (
+  λ o. let none : CircularIDP g → ⊥ = ordered-idp g (accepted g good) o in (none, ordered-back g good none (o .set) (o .areSets) (o .noCycle)),
+  λ w.
+      record {
+        set = computedSets g;
+        areSets = sets-exist g good (w .0);
+        noCycle = ordered-along g good (w .0) (computedSets g) (sets-exist g good (w .0)) (w .1);
+      },
+)

@@ -29,11 +29,11 @@ module _ (g ids other : List ℕ) (same : (x : ℕ) → word ids x ≡ word othe
       ap (λ (placed : List ℕ). tabulate mostAttributes (λ a. cond (takes g ids x placed (suc k) a) (suc k) (word placed a))) (placed-same x k)
       ∙ ap (tabulate mostAttributes)
       (fun-ext (λ a.
-          ap (λ (t : Bool). cond t (suc k) (word (placedUpTo g other x k) a)) (takes-same x (placedUpTo g other x k) (suc k) a)))
+      ap (λ (t : Bool). cond t (suc k) (word (placedUpTo g other x k) a)) (takes-same x (placedUpTo g other x k) (suc k) a)))
 
   pub sets-same : setsOf g ids ≡ setsOf g other
   unfolding setsOf setsOfSymbol
   sets-same =
       ap (blocks mostSymbols)
       (fun-ext (λ x.
-          ap (λ (p : List ℕ). cond (symbolCounts g x and nonterminal g x) p (replicate mostAttributes 0)) (placed-same x mostSets)))
+      ap (λ (p : List ℕ). cond (symbolCounts g x and nonterminal g x) p (replicate mostAttributes 0)) (placed-same x mostSets)))

@@ -64,11 +64,11 @@ pub record SetsTo (g ids sets : List ℕ) (x : ℕ) : Type 0 where
 pub sets-start : (g ids : List ℕ) → readTable g ≡ Good → SetsTo g ids (replicate 256 0) 0
 sets-start g ids good =
     record {
-        inside = omega arith;
-        formed = accepted g good;
-        size = length-replicate {A = ℕ} 256 0;
-        words = λ y a h l.
-            getD-replicate {A = ℕ} 256 (8 * y + a) 0 0 (omega arith) ∙ sym (passed-over (ltb y 0) _ 0 (false-T _ (le-ltb y 0 (omega arith))))
+      inside = omega arith;
+      formed = accepted g good;
+      size = length-replicate {A = ℕ} 256 0;
+      words = λ y a h l.
+          getD-replicate {A = ℕ} 256 (8 * y + a) 0 0 (omega arith) ∙ sym (passed-over (ltb y 0) _ 0 (false-T _ (le-ltb y 0 (omega arith))));
     }
 
 -- the words of symbol x after it is done, and those of the others
@@ -99,16 +99,16 @@ module _ (g ids sets : List ℕ) (x : ℕ) (w : SetsTo g ids sets x) (h : x < sy
   placed-here a l =
       ⊎-elim
       (λ t.
-          ap (λ (s : List ℕ). word s (8 * x + a)) (chosen (nonterminal g x) _ sets t)
-          ∙ (nine .words a l
-          ∙ ap (λ (s : List ℕ). word s a) (sym (chosen (symbolCounts g x and nonterminal g x) (placedUpTo g ids x mostSets) (replicate mostAttributes 0) (and-intro _ _ (lt→ltb x (symbols g) h) t)))))
+      ap (λ (s : List ℕ). word s (8 * x + a)) (chosen (nonterminal g x) _ sets t)
+      ∙ (nine .words a l
+      ∙ ap (λ (s : List ℕ). word s a) (sym (chosen (symbolCounts g x and nonterminal g x) (placedUpTo g ids x mostSets) (replicate mostAttributes 0) (and-intro _ _ (lt→ltb x (symbols g) h) t)))))
       (λ t.
-          ap (λ (s : List ℕ). word s (8 * x + a)) (passed-over (nonterminal g x) _ sets t)
-          ∙ (zeros-there a l
-          ∙ (sym (getD-replicate {A = ℕ} mostAttributes a 0 0 l)
-          ∙ ap (λ (s : List ℕ). word s a)
-          (sym (passed-over (symbolCounts g x and nonterminal g x) (placedUpTo g ids x mostSets) (replicate mostAttributes 0)
-          (not-T (symbolCounts g x and nonterminal g x) (λ u. T-not (nonterminal g x) t (and-right _ _ u))))))))
+      ap (λ (s : List ℕ). word s (8 * x + a)) (passed-over (nonterminal g x) _ sets t)
+      ∙ (zeros-there a l
+      ∙ (sym (getD-replicate {A = ℕ} mostAttributes a 0 0 l)
+      ∙ ap (λ (s : List ℕ). word s a)
+      (sym (passed-over (symbolCounts g x and nonterminal g x) (placedUpTo g ids x mostSets) (replicate mostAttributes 0)
+      (not-T (symbolCounts g x and nonterminal g x) (λ u. T-not (nonterminal g x) t (and-right _ _ u))))))))
       (tested (nonterminal g x))
 
   placed-other : (j : ℕ) → (j < 8 * x) ⊎ (8 * x + 8 ≤ j) → word (placedNonterminal g x (word ids x) sets) j ≡ word sets j
@@ -123,28 +123,28 @@ pub sets-turn : (g ids sets : List ℕ) (x arcs : ℕ) (next : List ℕ) → Set
 sets-turn g ids sets x arcs next w h e f =
     let n : next ≡ placedNonterminal g x (word ids x) sets = f ∙ ap (λ (v : ℕ). placedNonterminal g x v sets) e in
     record {
-        inside = omega arith;
-        formed = w .formed;
-        size = ap length n ∙ placed-size g ids sets x w h;
-        words = λ y a hy l.
-            ap (λ (s : List ℕ). word s (8 * y + a)) n
-            ∙ ⊎-elim
-            (λ b.
-                placed-other g ids sets x w h (8 * y + a) (inl (omega arith))
-                ∙ (w .words y a hy l
-                ∙ (chosen (ltb y x) _ 0 (lt→ltb y x b) ∙ sym (chosen (ltb y (x + 1)) _ 0 (lt→ltb y (x + 1) (omega arith))))))
-            (λ b.
-                ⊎-elim
-                (λ c.
-                    placed-other g ids sets x w h (8 * y + a) (inr (omega arith))
-                    ∙ (w .words y a hy l
-                    ∙ (passed-over (ltb y x) _ 0 (false-T _ (le-ltb y x b)) ∙ sym (passed-over (ltb y (x + 1)) _ 0 (false-T _ (le-ltb y (x + 1) (omega arith)))))))
-                (λ c.
-                    let q : y ≡ x = omega arith in
-                    ap (λ (z : ℕ). word (placedNonterminal g x (word ids x) sets) (8 * z + a)) q
-                    ∙ (placed-here g ids sets x w h a l
-                    ∙ (ap (λ (z : ℕ). word (setsOfSymbol g ids z) a) (sym q) ∙ sym (chosen (ltb y (x + 1)) _ 0 (lt→ltb y (x + 1) (omega arith))))))
-                (below-or-not x y)) (below-or-not y x)
+      inside = omega arith;
+      formed = w .formed;
+      size = ap length n ∙ placed-size g ids sets x w h;
+      words = λ y a hy l.
+          ap (λ (s : List ℕ). word s (8 * y + a)) n
+          ∙ ⊎-elim
+          (λ b.
+          placed-other g ids sets x w h (8 * y + a) (inl (omega arith))
+          ∙ (w .words y a hy l
+          ∙ (chosen (ltb y x) _ 0 (lt→ltb y x b) ∙ sym (chosen (ltb y (x + 1)) _ 0 (lt→ltb y (x + 1) (omega arith))))))
+          (λ b.
+          ⊎-elim
+          (λ c.
+          placed-other g ids sets x w h (8 * y + a) (inr (omega arith))
+          ∙ (w .words y a hy l
+          ∙ (passed-over (ltb y x) _ 0 (false-T _ (le-ltb y x b)) ∙ sym (passed-over (ltb y (x + 1)) _ 0 (false-T _ (le-ltb y (x + 1) (omega arith)))))))
+          (λ c.
+          let q : y ≡ x = omega arith in
+          ap (λ (z : ℕ). word (placedNonterminal g x (word ids x) sets) (8 * z + a)) q
+          ∙ (placed-here g ids sets x w h a l
+          ∙ (ap (λ (z : ℕ). word (setsOfSymbol g ids z) a) (sym q) ∙ sym (chosen (ltb y (x + 1)) _ 0 (lt→ltb y (x + 1) (omega arith))))))
+          (below-or-not x y)) (below-or-not y x);
     }
 
 -- all symbols
@@ -153,13 +153,13 @@ unfolding setNumber
 sets-finish g ids sets x w h =
     ext-getD 0 sets (setsOf g ids) (w .size ∙ sym (length-sets g ids))
     (λ j l.
-        let i : 8 * (j / 8) + j % 8 ≡ j = omega arith in
-        let y : j / 8 < 32 = omega (arith, w .size) in
-        subst (λ (n : ℕ). word sets n ≡ word (setsOf g ids) n) i
-        (w .words (j / 8) (j % 8) y (omega arith)
-        ∙ ⊎-elim
-        (λ b. chosen (ltb (j / 8) x) _ 0 (lt→ltb (j / 8) x b) ∙ sym (word-of-symbol g ids (j / 8) (j % 8) y (omega arith)))
-        (λ b.
-            passed-over (ltb (j / 8) x) _ 0 (false-T _ (le-ltb (j / 8) x b))
-            ∙ sym (number-of-other g ids (j / 8) (j % 8) (λ s k. omega arith) (omega arith)))
-        (below-or-not (j / 8) x)))
+    let i : 8 * (j / 8) + j % 8 ≡ j = omega arith in
+    let y : j / 8 < 32 = omega (arith, w .size) in
+    subst (λ (n : ℕ). word sets n ≡ word (setsOf g ids) n) i
+    (w .words (j / 8) (j % 8) y (omega arith)
+    ∙ ⊎-elim
+    (λ b. chosen (ltb (j / 8) x) _ 0 (lt→ltb (j / 8) x b) ∙ sym (word-of-symbol g ids (j / 8) (j % 8) y (omega arith)))
+    (λ b.
+    passed-over (ltb (j / 8) x) _ 0 (false-T _ (le-ltb (j / 8) x b))
+    ∙ sym (number-of-other g ids (j / 8) (j % 8) (λ s k. omega arith) (omega arith)))
+    (below-or-not (j / 8) x)))

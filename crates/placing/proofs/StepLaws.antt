@@ -48,19 +48,19 @@ pub stepping-turn : (entry : List ℕ) (at every inherited arcs : ℕ) (sets : L
 unfolding numberedTo leftAfter takenNext
 stepping-turn entry at every inherited arcs sets left k class taken next rest w l e f h q =
     let t : taken ≡ takenFrom arcs (leftAfter every inherited arcs k) (classOf every inherited (suc k)) =
-            f ∙ ap₂ (takenFrom arcs) (w .leftIs) (e ∙ ap (classOf every inherited) (add-one k)) in
+    f ∙ ap₂ (takenFrom arcs) (w .leftIs) (e ∙ ap (classOf every inherited) (add-one k)) in
     record {
-        count = omega arith;
-        room = w .room;
-        size = ap length h ∙ (length-numbered sets at taken (k + 1) ∙ w .size);
-        small = subst⁻¹ (λ (n : ℕ). n < 256) q (minus-lt 8 left taken (w .small));
-        words =
-            subst⁻¹ (λ (n : ℕ). next ≡ numberedTo entry at every inherited arcs n) (add-one k)
-            (h ∙ (ap (λ (n : ℕ). numbered sets at taken n) (add-one k)
-            ∙ (ap (λ (s : List ℕ). numbered s at taken (suc k)) (w .words)
-            ∙ ap (λ (n : ℕ). numbered (numberedTo entry at every inherited arcs k) at n (suc k)) t)));
-        leftIs =
-            subst⁻¹ (λ (n : ℕ). rest ≡ leftAfter every inherited arcs n) (add-one k) (q ∙ ap₂ minus (w .leftIs) t)
+      count = omega arith;
+      room = w .room;
+      size = ap length h ∙ (length-numbered sets at taken (k + 1) ∙ w .size);
+      small = subst⁻¹ (λ (n : ℕ). n < 256) q (minus-lt 8 left taken (w .small));
+      words =
+          subst⁻¹ (λ (n : ℕ). next ≡ numberedTo entry at every inherited arcs n) (add-one k)
+          (h ∙ (ap (λ (n : ℕ). numbered sets at taken n) (add-one k)
+          ∙ (ap (λ (s : List ℕ). numbered s at taken (suc k)) (w .words)
+          ∙ ap (λ (n : ℕ). numbered (numberedTo entry at every inherited arcs k) at n (suc k)) t)));
+      leftIs =
+          subst⁻¹ (λ (n : ℕ). rest ≡ leftAfter every inherited arcs n) (add-one k) (q ∙ ap₂ minus (w .leftIs) t);
     }
 
 pub stepping-finish : (entry : List ℕ) (at every inherited arcs : ℕ) (sets : List ℕ) (left k : ℕ)

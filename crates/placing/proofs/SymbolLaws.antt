@@ -18,8 +18,21 @@ use Rattle.bits.proofs.MemberLaws.{hasb-collect, hasb-below, hasb-ext, none-lef
 use Rattle.basics.specs.Tests.{_and_, _implies_, all}
 use Rattle.basics.specs.Lists.{word, tabulate}
 use Rattle.basics.proofs.TestLaws.{
-    and-intro, and-left, and-right, chosen, passed-over, tested, same-test, true-T, T-true, all-at, all-intro, implies-use, implies-intro,
-    eq-T, below-or-not
+  and-intro,
+  and-left,
+  and-right,
+  chosen,
+  passed-over,
+  tested,
+  same-test,
+  true-T,
+  T-true,
+  all-at,
+  all-intro,
+  implies-use,
+  implies-intro,
+  eq-T,
+  below-or-not,
 }
 use Rattle.grammar.specs.Limits.{mostAttributes}
 use Rattle.grammar.specs.Table.{attributes, mask}
@@ -45,13 +58,15 @@ module _ (g ids : List ℕ) (x : ℕ) (few : attributes g x ≤ mostAttributes) 
   class-forth k a t =
       ⊎-elim
       (λ odd.
-          let u = minus-both a (below (attributes g x)) (mask g x) (subst (λ (s : ℕ). T (hasb a s)) (chosen (eqb (k % 2) 1) _ _ odd) t) in
-          (below-forth (attributes g x) a (u .0),
-          eq-T (k % 2) (cond (hasb a (mask g x)) 0 1) (eqb→eq (k % 2) 1 odd ∙ sym (passed-over (hasb a (mask g x)) 0 1 (u .1)))))
+      let u = minus-both a (below (attributes g x)) (mask g x) (subst (λ (s : ℕ). T (hasb a s)) (chosen (eqb (k % 2) 1) _ _ odd) t) in (
+        below-forth (attributes g x) a (u .0),
+        eq-T (k % 2) (cond (hasb a (mask g x)) 0 1) (eqb→eq (k % 2) 1 odd ∙ sym (passed-over (hasb a (mask g x)) 0 1 (u .1))),
+      ))
       (λ even.
-          let u : T (hasb a (mask g x)) = subst (λ (s : ℕ). T (hasb a s)) (passed-over (eqb (k % 2) 1) _ _ even) t in
-          (hasb-below (attributes g x) a (mask g x) fits u,
-          eq-T (k % 2) (cond (hasb a (mask g x)) 0 1) (is-even k even ∙ sym (chosen (hasb a (mask g x)) 0 1 u))))
+      let u : T (hasb a (mask g x)) = subst (λ (s : ℕ). T (hasb a s)) (passed-over (eqb (k % 2) 1) _ _ even) t in (
+        hasb-below (attributes g x) a (mask g x) fits u,
+        eq-T (k % 2) (cond (hasb a (mask g x)) 0 1) (is-even k even ∙ sym (chosen (hasb a (mask g x)) 0 1 u)),
+      ))
       (tested (eqb (k % 2) 1))
     where
       is-even : (k : ℕ) → T (not (eqb (k % 2) 1)) → k % 2 ≡ 0
@@ -63,14 +78,14 @@ module _ (g ids : List ℕ) (x : ℕ) (few : attributes g x ≤ mostAttributes) 
       let e : k % 2 ≡ cond (hasb a (mask g x)) 0 1 = eqb→eq (k % 2) (cond (hasb a (mask g x)) 0 1) t in
       ⊎-elim
       (λ i.
-          subst⁻¹ (λ (s : ℕ). T (hasb a s))
-          (passed-over (eqb (k % 2) 1) (minus (below (attributes g x)) (mask g x)) (mask g x)
-          (not-T (eqb (k % 2) 1) (λ q. omega (arith, eqb→eq (k % 2) 1 q, e, chosen {A = ℕ} (hasb a (mask g x)) 0 1 i)))) i)
+      subst⁻¹ (λ (s : ℕ). T (hasb a s))
+      (passed-over (eqb (k % 2) 1) (minus (below (attributes g x)) (mask g x)) (mask g x)
+      (not-T (eqb (k % 2) 1) (λ q. omega (arith, eqb→eq (k % 2) 1 q, e, chosen {A = ℕ} (hasb a (mask g x)) 0 1 i)))) i)
       (λ i.
-          subst⁻¹ (λ (s : ℕ). T (hasb a s))
-          (chosen (eqb (k % 2) 1) (minus (below (attributes g x)) (mask g x)) (mask g x)
-          (eq-T (k % 2) 1 (e ∙ passed-over (hasb a (mask g x)) 0 1 i)))
-          (both-minus a (below (attributes g x)) (mask g x) (below-back (attributes g x) a h) i))
+      subst⁻¹ (λ (s : ℕ). T (hasb a s))
+      (chosen (eqb (k % 2) 1) (minus (below (attributes g x)) (mask g x)) (mask g x)
+      (eq-T (k % 2) 1 (e ∙ passed-over (hasb a (mask g x)) 0 1 i)))
+      (both-minus a (below (attributes g x)) (mask g x) (below-back (attributes g x) a h) i))
       (tested (hasb a (mask g x)))
 
   -- the bits of the unplaced attributes
@@ -93,16 +108,17 @@ module _ (g ids : List ℕ) (x : ℕ) (few : attributes g x ≤ mostAttributes) 
       where
         past : ℕ
         past = minus (common (field (8 * a) (word ids x)) left) (classOf (below (attributes g x)) (mask g x) k)
+
         go : (b : ℕ) → b < attributes g x → T (hasb (8 * a + b) (word ids x)) → word placed b ≡ 0 → T (ofClass g x k b)
         go b h arc e =
             ⊎-elim (λ c. class-forth k b c .1)
             (λ c.
-                absurd (T-not (hasb b 0) (none-left b)
-                (subst (λ (s : ℕ). T (hasb b s))
-                (eqb→eq (minus (common (field (8 * a) (word ids x)) left) (classOf (below (attributes g x)) (mask g x) k)) 0 t)
-                (both-minus b _ _
-                (both-common b (field (8 * a) (word ids x)) left
-                (subst⁻¹ (λ (q : Bool). T q) (has-field (8 * a) b (word ids x) (omega (arith, few))) arc) (w .back b h e)) c))))
+            absurd (T-not (hasb b 0) (none-left b)
+            (subst (λ (s : ℕ). T (hasb b s))
+            (eqb→eq (minus (common (field (8 * a) (word ids x)) left) (classOf (below (attributes g x)) (mask g x) k)) 0 t)
+            (both-minus b _ _
+            (both-common b (field (8 * a) (word ids x)) left
+            (subst⁻¹ (λ (q : Bool). T q) (has-field (8 * a) b (word ids x) (omega (arith, few))) arc) (w .back b h e)) c))))
             (tested (hasb b (classOf (below (attributes g x)) (mask g x) k)))
 
     stays-back : (a : ℕ) → a < 8 → T (all (attributes g x) (λ b. (arcIn ids x a b and unplaced placed b) implies ofClass g x k b))
@@ -113,8 +129,8 @@ module _ (g ids : List ℕ) (x : ℕ) (few : attributes g x ≤ mostAttributes) 
         (hasb-ext 64 (minus (common (field (8 * a) (word ids x)) left) (classOf (below (attributes g x)) (mask g x) k)) 0
         (minus-lt 64 _ _ (common-lt 64 _ left (omega (arith, field-lt (8 * a) (word ids x))))) (omega arith)
         (λ b h.
-            same-test (hasb b (minus (common (field (8 * a) (word ids x)) left) (classOf (below (attributes g x)) (mask g x) k))) (hasb b 0)
-            (λ u. absurd (never b u)) (λ u. absurd (T-not (hasb b 0) (none-left b) u))))
+        same-test (hasb b (minus (common (field (8 * a) (word ids x)) left) (classOf (below (attributes g x)) (mask g x) k))) (hasb b 0)
+        (λ u. absurd (never b u)) (λ u. absurd (T-not (hasb b 0) (none-left b) u))))
       where
         never : (b : ℕ) → T (hasb b (minus (common (field (8 * a) (word ids x)) left) (classOf (below (attributes g x)) (mask g x) k))) → ⊥
         never b u =
@@ -122,7 +138,7 @@ module _ (g ids : List ℕ) (x : ℕ) (few : attributes g x ≤ mostAttributes) 
             let c = common-both b (field (8 * a) (word ids x)) left (v .0) in
             let l = w .forth b (c .1) in
             let arc : T (hasb (8 * a + b) (word ids x)) =
-                    subst (λ (q : Bool). T q) (has-field (8 * a) b (word ids x) (hasb-below 8 b _ (field-lt (8 * a) (word ids x)) (c .0))) (c .0) in
+            subst (λ (q : Bool). T q) (has-field (8 * a) b (word ids x) (hasb-below 8 b _ (field-lt (8 * a) (word ids x)) (c .0))) (c .0) in
             T-not (hasb b (classOf (below (attributes g x)) (mask g x) k)) (v .1)
             (class-back k b (l .0)
             (implies-use _ _ (all-at (attributes g x) (λ b. (arcIn ids x a b and unplaced placed b) implies ofClass g x k b) t b (l .0))
@@ -136,18 +152,18 @@ module _ (g ids : List ℕ) (x : ℕ) (few : attributes g x ≤ mostAttributes) 
         hasb-collect 64 a _ (omega arith)
         ∙ same-test _ _
         (λ t.
-            let c = common-both a left (classOf (below (attributes g x)) (mask g x) k) (and-left _ _ t) in
-            let l = w .forth a (c .0) in
-            and-intro _ _ (lt→ltb a (attributes g x) (l .0))
-            (and-intro _ _ (eq-T _ _ (l .1)) (and-intro _ _ (class-forth k a (c .1) .1) (stays-forth a ha (and-right _ _ t)))))
+        let c = common-both a left (classOf (below (attributes g x)) (mask g x) k) (and-left _ _ t) in
+        let l = w .forth a (c .0) in
+        and-intro _ _ (lt→ltb a (attributes g x) (l .0))
+        (and-intro _ _ (eq-T _ _ (l .1)) (and-intro _ _ (class-forth k a (c .1) .1) (stays-forth a ha (and-right _ _ t)))))
         (λ t.
-            let h : a < attributes g x = ltb→lt a (attributes g x) (and-left _ _ t) in
-            let t₁ = and-right _ _ t in
-            let t₂ = and-right _ _ t₁ in
-            and-intro _ _
-            (both-common a left (classOf (below (attributes g x)) (mask g x) k) (w .back a h (eqb→eq _ _ (and-left _ _ t₁)))
-            (class-back k a h (and-left _ _ t₂)))
-            (stays-back a ha (and-right _ _ t₂)))
+        let h : a < attributes g x = ltb→lt a (attributes g x) (and-left _ _ t) in
+        let t₁ = and-right _ _ t in
+        let t₂ = and-right _ _ t₁ in
+        and-intro _ _
+        (both-common a left (classOf (below (attributes g x)) (mask g x) k) (w .back a h (eqb→eq _ _ (and-left _ _ t₁)))
+        (class-back k a h (and-left _ _ t₂)))
+        (stays-back a ha (and-right _ _ t₂)))
 
 -- After k sets: the words of the symbol, which stand from word `at` on, and the bits that are left.
 pub record PlacedTo (g ids : List ℕ) (x : ℕ) (entry : List ℕ) (at k : ℕ) (sets : List ℕ) (left : ℕ) : Type 0 where
@@ -170,25 +186,25 @@ numbered-word sets at taken k a h l f =
     (same-test (leb at (at + a) and ltb (at + a) (at + 64) and hasb (at + a - at) taken) (hasb a taken)
     (λ t. subst (λ (y : ℕ). T (hasb y taken)) back (and-right _ _ (and-right _ _ t)))
     (λ t.
-        and-intro _ _ (le→leb at (at + a) (omega arith))
-        (and-intro _ _ (lt→ltb (at + a) (at + 64) (omega arith)) (subst⁻¹ (λ (y : ℕ). T (hasb y taken)) back t))))
+    and-intro _ _ (le→leb at (at + a) (omega arith))
+    (and-intro _ _ (lt→ltb (at + a) (at + 64) (omega arith)) (subst⁻¹ (λ (y : ℕ). T (hasb y taken)) back t))))
 
 numbered-other : (sets : List ℕ) (at taken k j : ℕ) → taken < 2 ^ 8 → (j < at) ⊎ (at + 8 ≤ j) → word (numbered sets at taken k) j ≡ word sets j
 unfolding numbered rewritten
 numbered-other sets at taken k j f out =
     ⊎-elim
     (λ h.
-        getD-tabulate (length sets) _ 0 j h
-        ∙ passed-over (leb at j and ltb j (at + 64) and hasb (j - at) taken) _ _
-        (not-T (leb at j and ltb j (at + 64) and hasb (j - at) taken)
-        (λ t.
-            let low : at ≤ j = leb→le at j (and-left _ _ t) in
-            let high : j - at < 8 = hasb-below 8 (j - at) taken f (and-right _ _ (and-right _ _ t)) in
-            ⊎-elim (λ l. omega arith) (λ l. omega arith) out)))
+    getD-tabulate (length sets) _ 0 j h
+    ∙ passed-over (leb at j and ltb j (at + 64) and hasb (j - at) taken) _ _
+    (not-T (leb at j and ltb j (at + 64) and hasb (j - at) taken)
+    (λ t.
+    let low : at ≤ j = leb→le at j (and-left _ _ t) in
+    let high : j - at < 8 = hasb-below 8 (j - at) taken f (and-right _ _ (and-right _ _ t)) in
+    ⊎-elim (λ l. omega arith) (λ l. omega arith) out)))
     (λ h.
-        List·getD-eq-default (tabulate (length sets) (λ j. cond (leb at j and ltb j (at + 64) and hasb (j - at) taken) k (word sets j))) 0
-        (omega (arith, length-tabulate (length sets) (λ j. cond (leb at j and ltb j (at + 64) and hasb (j - at) taken) k (word sets j))))
-        ∙ sym (List·getD-eq-default sets 0 h))
+    List·getD-eq-default (tabulate (length sets) (λ j. cond (leb at j and ltb j (at + 64) and hasb (j - at) taken) k (word sets j))) 0
+    (omega (arith, length-tabulate (length sets) (λ j. cond (leb at j and ltb j (at + 64) and hasb (j - at) taken) k (word sets j))))
+    ∙ sym (List·getD-eq-default sets 0 h))
     (below-or-not j (length sets))
 
 pub length-numbered : (sets : List ℕ) (at taken k : ℕ) → length (numbered sets at taken k) ≡ length sets
@@ -207,25 +223,25 @@ taken-lt arcs left class h =
         subst⁻¹ (λ (n : ℕ). n < 2 ^ 8)
         (hasb-ext 64 s (s % 2 ^ 8) f (omega arith)
         (λ a l.
-            same-test (hasb a s) (hasb a (s % 2 ^ 8))
-            (λ t. true-T _ (bit-has a (s % 2 ^ 8) (bit-cut 8 a s (w a l t) ∙ has-bit a s (T-true _ t))))
-            (λ t. true-T _ (bit-has a s (sym (bit-cut 8 a s (hasb-below 8 a (s % 2 ^ 8) (omega arith) t)) ∙ has-bit a (s % 2 ^ 8) (T-true _ t)))))) (omega arith)
+        same-test (hasb a s) (hasb a (s % 2 ^ 8))
+        (λ t. true-T _ (bit-has a (s % 2 ^ 8) (bit-cut 8 a s (w a l t) ∙ has-bit a s (T-true _ t))))
+        (λ t. true-T _ (bit-has a s (sym (bit-cut 8 a s (hasb-below 8 a (s % 2 ^ 8) (omega arith) t)) ∙ has-bit a (s % 2 ^ 8) (T-true _ t)))))) (omega arith)
 
 pub placing-start : (g ids : List ℕ) (x : ℕ) (sets : List ℕ) (at left : ℕ) → attributes g x ≤ mostAttributes → mask g x < 2 ^ attributes g x
     → at + 8 ≤ length sets → ((a : ℕ) → a < 8 → word sets (at + a) ≡ 0) → left ≡ below (attributes g x) → PlacedTo g ids x sets at 0 sets left
 placing-start g ids x sets at left few fits h z e =
     record {
-        few = few;
-        fits = fits;
-        room = h;
-        size = refl;
-        words = λ a l. z a l ∙ sym (none-at-first g ids x a);
-        others = λ j o. refl;
-        leftIs = record {
-            small = subst⁻¹ (λ (n : ℕ). n < 2 ^ 8) e (omega (arith, pow-pos (attributes g x), pow-mono {i = attributes g x} {j = 8} few));
-            forth = λ a t. (below-forth (attributes g x) a (subst (λ (n : ℕ). T (hasb a n)) e t), none-at-first g ids x a);
-            back = λ a l q. subst⁻¹ (λ (n : ℕ). T (hasb a n)) e (below-back (attributes g x) a l)
-        }
+      few = few;
+      fits = fits;
+      room = h;
+      size = refl;
+      words = λ a l. z a l ∙ sym (none-at-first g ids x a);
+      others = λ j o. refl;
+      leftIs = record {
+        small = subst⁻¹ (λ (n : ℕ). n < 2 ^ 8) e (omega (arith, pow-pos (attributes g x), pow-mono {i = attributes g x} {j = 8} few));
+        forth = λ a t. (below-forth (attributes g x) a (subst (λ (n : ℕ). T (hasb a n)) e t), none-at-first g ids x a);
+        back = λ a l q. subst⁻¹ (λ (n : ℕ). T (hasb a n)) e (below-back (attributes g x) a l);
+      };
     }
 
 module _ (g ids : List ℕ) (x : ℕ) (entry : List ℕ) (at k : ℕ) (sets : List ℕ) (left : ℕ) (w : PlacedTo g ids x entry at k sets left) where
@@ -247,29 +263,31 @@ module _ (g ids : List ℕ) (x : ℕ) (entry : List ℕ) (at k : ℕ) (sets : Li
       let small : taken < 2 ^ 8 = subst⁻¹ (λ (n : ℕ). n < 2 ^ 8) e theTaken-lt in
       let space : at + 8 ≤ length sets = omega (arith, w .room, w .size) in
       record {
-          few = w .few;
-          fits = w .fits;
-          room = w .room;
-          size = ap length f ∙ (length-numbered sets at taken (suc k) ∙ w .size);
-          words = λ a l.
-              ap (λ (s : List ℕ). word s (at + a)) f
-              ∙ (numbered-word sets at taken (suc k) a space l small
-              ∙ (ap (λ (n : ℕ). cond (hasb a taken) (suc k) n) (w .words a l)
-              ∙ (ap (λ (t : ℕ). cond (hasb a t) (suc k) (word (placedUpTo g ids x k) a)) e ∙ next-word a l)));
-          others = λ j o. ap (λ (s : List ℕ). word s j) f ∙ (numbered-other sets at taken (suc k) j small o ∙ w .others j o);
-          leftIs = record {
-              small = subst⁻¹ (λ (n : ℕ). n < 2 ^ 8) h (minus-lt 8 left taken (w .leftIs .small));
-              forth = λ a t. left-forth a (subst (λ (n : ℕ). T (hasb a (minus left n))) e (subst (λ (n : ℕ). T (hasb a n)) h t));
-              back = λ a l q. subst⁻¹ (λ (n : ℕ). T (hasb a n)) h (subst⁻¹ (λ (n : ℕ). T (hasb a (minus left n))) e (left-back a l q))
-          }
+        few = w .few;
+        fits = w .fits;
+        room = w .room;
+        size = ap length f ∙ (length-numbered sets at taken (suc k) ∙ w .size);
+        words = λ a l.
+            ap (λ (s : List ℕ). word s (at + a)) f
+            ∙ (numbered-word sets at taken (suc k) a space l small
+            ∙ (ap (λ (n : ℕ). cond (hasb a taken) (suc k) n) (w .words a l)
+            ∙ (ap (λ (t : ℕ). cond (hasb a t) (suc k) (word (placedUpTo g ids x k) a)) e ∙ next-word a l)));
+        others = λ j o. ap (λ (s : List ℕ). word s j) f ∙ (numbered-other sets at taken (suc k) j small o ∙ w .others j o);
+        leftIs = record {
+          small = subst⁻¹ (λ (n : ℕ). n < 2 ^ 8) h (minus-lt 8 left taken (w .leftIs .small));
+          forth = λ a t. left-forth a (subst (λ (n : ℕ). T (hasb a (minus left n))) e (subst (λ (n : ℕ). T (hasb a n)) h t));
+          back = λ a l q. subst⁻¹ (λ (n : ℕ). T (hasb a n)) h (subst⁻¹ (λ (n : ℕ). T (hasb a (minus left n))) e (left-back a l q));
+        };
       }
     where
       left-forth : (a : ℕ) → T (hasb a (minus left theTaken)) → (a < attributes g x) × (word (placedUpTo g ids x (suc k)) a ≡ 0)
       left-forth a t =
           let u = minus-both a left theTaken t in
-          let l = w .leftIs .forth a (u .0) in
-          (l .0,
-          sym (next-word a (omega (arith, w .few, l .0))) ∙ (passed-over (hasb a theTaken) (suc k) (word (placedUpTo g ids x k) a) (u .1) ∙ l .1))
+          let l = w .leftIs .forth a (u .0) in (
+            l .0,
+            sym (next-word a (omega (arith, w .few, l .0))) ∙ (passed-over (hasb a theTaken) (suc k) (word (placedUpTo g ids x k) a) (u .1) ∙ l .1),
+          )
+
       left-back : (a : ℕ) → a < attributes g x → word (placedUpTo g ids x (suc k)) a ≡ 0 → T (hasb a (minus left theTaken))
       left-back a l q =
           let n : cond (hasb a theTaken) (suc k) (word (placedUpTo g ids x k) a) ≡ 0 = next-word a (omega (arith, w .few)) ∙ q in

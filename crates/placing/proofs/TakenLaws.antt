@@ -28,11 +28,11 @@ pub record Taking (arcs unplaced class left taken : ℕ) : Type 0 where
 pub taking-start : (arcs unplaced class left : ℕ) → unplaced < 256 → left ≡ common unplaced class → Taking arcs unplaced class left 0
 taking-start arcs unplaced class left h e =
     record {
-        leftFits = subst⁻¹ (λ (x : ℕ). x < 2 ^ 64) e (common-lt 64 unplaced class (omega arith));
-        takenFits = omega arith;
-        within = λ a t. subst (λ (x : ℕ). T (hasb a x)) e t;
-        forth = λ a t. absurd (T-not (hasb a 0) (none-left a) t);
-        back = λ a t s n. absurd (T-not (hasb a left) n (subst⁻¹ (λ (x : ℕ). T (hasb a x)) e t))
+      leftFits = subst⁻¹ (λ (x : ℕ). x < 2 ^ 64) e (common-lt 64 unplaced class (omega arith));
+      takenFits = omega arith;
+      within = λ a t. subst (λ (x : ℕ). T (hasb a x)) e t;
+      forth = λ a t. absurd (T-not (hasb a 0) (none-left a) t);
+      back = λ a t s n. absurd (T-not (hasb a left) n (subst⁻¹ (λ (x : ℕ). T (hasb a x)) e t));
     }
 
 -- a candidate is an attribute
@@ -60,31 +60,32 @@ module _ (arcs unplaced class left taken a : ℕ) (w : Taking arcs unplaced clas
   turn-yes : T (stays arcs unplaced class a) → Taking arcs unplaced class (remove a left) (insert a taken)
   turn-yes s =
       record {
-          leftFits = remove-lt 64 a left (w .leftFits);
-          takenFits = insert-lt 64 a taken (f .small) (w .takenFits);
-          within = λ b t. w .within b (earlier b t);
-          forth = λ b t.
-              ⊎-elim
-              (λ e.
-                  (subst⁻¹ (λ (x : ℕ). T (hasb x (common unplaced class))) e (w .within a here),
-                  subst⁻¹ (λ (x : ℕ). T (stays arcs unplaced class x)) e s,
-                  subst⁻¹ (λ (x : ℕ). T (not (hasb x (remove a left)))) e (has-not a left)))
-              (λ u. let v = w .forth b u in (v .0, v .1, still b (v .2))) (insert-cases b a taken t);
-          back = λ b c t n.
-              ⊎-elim (λ e. subst⁻¹ (λ (x : ℕ). T (hasb x (insert a taken))) e (insert-new a taken))
-              (λ m. insert-old b a taken (w .back b c t m)) (gone b n)
+        leftFits = remove-lt 64 a left (w .leftFits);
+        takenFits = insert-lt 64 a taken (f .small) (w .takenFits);
+        within = λ b t. w .within b (earlier b t);
+        forth = λ b t.
+            ⊎-elim
+            (λ e. (
+              subst⁻¹ (λ (x : ℕ). T (hasb x (common unplaced class))) e (w .within a here),
+              subst⁻¹ (λ (x : ℕ). T (stays arcs unplaced class x)) e s,
+              subst⁻¹ (λ (x : ℕ). T (not (hasb x (remove a left)))) e (has-not a left),
+            ))
+            (λ u. let v = w .forth b u in (v .0, v .1, still b (v .2))) (insert-cases b a taken t);
+        back = λ b c t n.
+            ⊎-elim (λ e. subst⁻¹ (λ (x : ℕ). T (hasb x (insert a taken))) e (insert-new a taken))
+            (λ m. insert-old b a taken (w .back b c t m)) (gone b n);
       }
 
   turn-no : T (not (stays arcs unplaced class a)) → Taking arcs unplaced class (remove a left) taken
   turn-no s =
       record {
-          leftFits = remove-lt 64 a left (w .leftFits);
-          takenFits = w .takenFits;
-          within = λ b t. w .within b (earlier b t);
-          forth = λ b t. let v = w .forth b t in (v .0, v .1, still b (v .2));
-          back = λ b c t n.
-              ⊎-elim (λ e. absurd (T-not (stays arcs unplaced class a) s (subst (λ (x : ℕ). T (stays arcs unplaced class x)) e t)))
-              (λ m. w .back b c t m) (gone b n)
+        leftFits = remove-lt 64 a left (w .leftFits);
+        takenFits = w .takenFits;
+        within = λ b t. w .within b (earlier b t);
+        forth = λ b t. let v = w .forth b t in (v .0, v .1, still b (v .2));
+        back = λ b c t n.
+            ⊎-elim (λ e. absurd (T-not (stays arcs unplaced class a) s (subst (λ (x : ℕ). T (stays arcs unplaced class x)) e t)))
+            (λ m. w .back b c t m) (gone b n);
       }
 
 -- one candidate more
@@ -94,11 +95,11 @@ taking-turn arcs unplaced class left taken a next more t w f e q h =
     subst⁻¹ (λ (x : ℕ). Taking arcs unplaced class x more) e
     (⊎-elim
     (λ s.
-        subst⁻¹ (λ (x : ℕ). Taking arcs unplaced class (remove a left) x) (h ∙ ap (λ (b : Bool). cond b (insert a taken) taken) (q ∙ T-true _ s))
-        (turn-yes arcs unplaced class left taken a w f s))
+    subst⁻¹ (λ (x : ℕ). Taking arcs unplaced class (remove a left) x) (h ∙ ap (λ (b : Bool). cond b (insert a taken) taken) (q ∙ T-true _ s))
+    (turn-yes arcs unplaced class left taken a w f s))
     (λ s.
-        subst⁻¹ (λ (x : ℕ). Taking arcs unplaced class (remove a left) x) (h ∙ ap (λ (b : Bool). cond b (insert a taken) taken) (q ∙ T-false _ s))
-        (turn-no arcs unplaced class left taken a w f s)) (tested (stays arcs unplaced class a)))
+    subst⁻¹ (λ (x : ℕ). Taking arcs unplaced class (remove a left) x) (h ∙ ap (λ (b : Bool). cond b (insert a taken) taken) (q ∙ T-false _ s))
+    (turn-no arcs unplaced class left taken a w f s)) (tested (stays arcs unplaced class a)))
 
 -- with nothing left, it is what the set takes
 pub taking-finish : (arcs unplaced class left taken : ℕ) → Taking arcs unplaced class left taken → left ≡ 0 → taken ≡ takenFrom arcs unplaced class
@@ -106,11 +107,11 @@ unfolding takenFrom
 taking-finish arcs unplaced class left taken w e =
     hasb-ext 64 taken (takenFrom arcs unplaced class) (w .takenFits) (collect-lt 64 _)
     (λ a h.
-        same-test (hasb a taken) (hasb a (takenFrom arcs unplaced class))
-        (λ t. let v = w .forth a t in subst⁻¹ (λ (x : Bool). T x) (hasb-collect 64 a _ h) (and-intro _ _ (v .0) (v .1)))
-        (λ t.
-            let v = subst (λ (x : Bool). T x) (hasb-collect 64 a _ h) t in
-            w .back a (and-left _ _ v) (and-right _ _ v) (subst⁻¹ (λ (x : ℕ). T (not (hasb a x))) e (none-left a))))
+    same-test (hasb a taken) (hasb a (takenFrom arcs unplaced class))
+    (λ t. let v = w .forth a t in subst⁻¹ (λ (x : Bool). T x) (hasb-collect 64 a _ h) (and-intro _ _ (v .0) (v .1)))
+    (λ t.
+    let v = subst (λ (x : Bool). T x) (hasb-collect 64 a _ h) t in
+    w .back a (and-left _ _ v) (and-right _ _ v) (subst⁻¹ (λ (x : ℕ). T (not (hasb a x))) e (none-left a))))
 
 -- the tests of one attribute, as the code makes them
 pub stays-by : (arcs unplaced class a bits both past : ℕ) → bits ≡ field (8 * a) arcs → both ≡ common bits unplaced → past ≡ minus both class
@@ -139,10 +140,10 @@ numbering-place entry at taken k sets left a w f =
 pub numbering-start : (sets : List ℕ) (at taken k : ℕ) → at + 8 ≤ length sets → taken < 256 → Numbering sets at taken k sets taken
 numbering-start sets at taken k h l =
     record {
-        small = l;
-        room = h;
-        size = refl;
-        rewriting = rewriting-start sets at taken (λ a. k) (λ o t. omega (arith, hasb-below 8 o taken l t))
+      small = l;
+      room = h;
+      size = refl;
+      rewriting = rewriting-start sets at taken (λ a. k) (λ o t. omega (arith, hasb-below 8 o taken l t));
     }
 
 pub numbering-turn : (entry : List ℕ) (at taken k : ℕ) (sets : List ℕ) (left a next : ℕ) → Numbering entry at taken k sets left → First left a

@@ -33,8 +33,24 @@ use Rattle.placing.proofs.SameSymbolSets.{sets-same}
 use Rattle.plans.specs.declared.Planned as P
 use Rattle.plans.specs.Buffers.{over, rowsOf}
 use Rattle.plans.specs.Answer.{
-    Outcome, untouched, circularIdp, unordered, accepted, room, stuckIn, idpPaths, edpPaths, afterEdp, afterIdp, afterRoom, afterReading, outcome, answerOf, rowsAfter, planAfter,
-    acceptedPlan
+  Outcome,
+  untouched,
+  circularIdp,
+  unordered,
+  accepted,
+  room,
+  stuckIn,
+  idpPaths,
+  edpPaths,
+  afterEdp,
+  afterIdp,
+  afterRoom,
+  afterReading,
+  outcome,
+  answerOf,
+  rowsAfter,
+  planAfter,
+  acceptedPlan,
 }
 use Rattle.plans.proofs.Answers.{no-idp-cycle, no-edp-cycle, comes}
 use Rattle.plans.proofs.Ordered.{CycleFree, free-accepted}
@@ -103,10 +119,10 @@ pub noncircular : (g offsets ids rows₀ rows : List ℕ) (planLength n : ℕ) (
     → Noncircular g offsets ids rows planLength
 noncircular g offsets ids rows₀ rows planLength n k w i is m h e =
     record {
-        read = subst⁻¹ (λ (l : ℕ). Read g offsets l planLength) (rows-kept g offsets rows₀ rows planLength (idps g) w is) w;
-        idsAre = i;
-        paths = over-again g rows₀ rows (idps g) is;
-        noIdpCycle = past-nine g rows₀ rows n k is m h e
+      read = subst⁻¹ (λ (l : ℕ). Read g offsets l planLength) (rows-kept g offsets rows₀ rows planLength (idps g) w is) w;
+      idsAre = i;
+      paths = over-again g rows₀ rows (idps g) is;
+      noIdpCycle = past-nine g rows₀ rows n k is m h e;
     }
 
 after-nine : (g : List ℕ) → circular g (idps g) ≡ false → afterEight g ≡ afterNine g
@@ -131,9 +147,9 @@ pub noncircular-came : (g rows₀ plan₀ rows : List ℕ) (answer : P.Planned) 
 noncircular-came g rows₀ plan₀ rows answer next plan n k is m h e w =
     came-by g (afterEight g) (afterNine g) rows₀ plan₀ answer next plan (after-nine g (past-nine g rows₀ rows n k is m h e))
     (record {
-        answers = w .answers;
-        rowsAre = over-new g rows₀ rows next (idps g) (edps g) is (w .rowsAre ∙ edp-left g rows) ∙ sym (edp-left g rows₀);
-        planIs = w .planIs
+      answers = w .answers;
+      rowsAre = over-new g rows₀ rows next (idps g) (edps g) is (w .rowsAre ∙ edp-left g rows) ∙ sym (edp-left g rows₀);
+      planIs = w .planIs;
     })
 
 -- the set words are those of IDS
@@ -159,14 +175,14 @@ pub ordered-ready : (g offsets ids s rows₀ next : List ℕ) (planLength n : �
     → Ordered g offsets s next planLength
 ordered-ready g offsets ids s rows₀ next planLength n l f es w j m e =
     record {
-        good = w .read .good;
-        starts = w .read .starts;
-        setsAre = sets-are g offsets ids s rows₀ planLength w es;
-        size = search-room g offsets rows₀ next planLength (rules g) (edps g) (w .read) refl f;
-        paths = over-again g rows₀ next (edps g) f;
-        noIdpCycle = w .noIdpCycle;
-        noEdpCycle = cycle-nothing g (edps g) rows₀ next f (searched g next n l Nothing m j e);
-        planRoom = plan-room g (length rows₀) planLength (w .read .space)
+      good = w .read .good;
+      starts = w .read .starts;
+      setsAre = sets-are g offsets ids s rows₀ planLength w es;
+      size = search-room g offsets rows₀ next planLength (rules g) (edps g) (w .read) refl f;
+      paths = over-again g rows₀ next (edps g) f;
+      noIdpCycle = w .noIdpCycle;
+      noEdpCycle = cycle-nothing g (edps g) rows₀ next f (searched g next n l Nothing m j e);
+      planRoom = plan-room g (length rows₀) planLength (w .read .space);
     }
 
 -- accepted
@@ -219,7 +235,7 @@ pub ready-read : (g offsets : List ℕ) (rowsLength planLength : ℕ) (v u : Ver
     → offsets ≡ offsetsFor g (readTable g) → u ≡ room g rowsLength planLength → u ≡ Good → Read g offsets rowsLength planLength
 ready-read g offsets rowsLength planLength v u e f o h k =
     record {
-        good = sym e ∙ f;
-        starts = o ∙ ap (offsetsFor g) (sym e ∙ f);
-        space = sym h ∙ k
+      good = sym e ∙ f;
+      starts = o ∙ ap (offsetsFor g) (sym e ∙ f);
+      space = sym h ∙ k;
     }

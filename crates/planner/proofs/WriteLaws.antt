@@ -81,11 +81,11 @@ unfolding blocks
 plan-start g offsets s rows lent entry w e =
     let q : entry ≡ over (sets g) lent = e ∙ (first-written s lent ∙ ap (λ (x : List ℕ). over x lent) (w .setsAre)) in
     record {
-        ready = subst⁻¹ (Ordered g offsets s rows) (ap length q ∙ over-size (sets g) lent (omega (arith, length-sets g (idsOf g), w .planRoom))) w;
-        inside = omega arith;
-        words =
-            q ∙ (sym (over-over (sets g) (sets g) lent (omega arith))
-            ∙ (ap (over (sets g)) (sym q) ∙ ap (λ (x : List ℕ). over x entry) (sym (mathlib.Core.List.append-nil (sets g)))))
+      ready = subst⁻¹ (Ordered g offsets s rows) (ap length q ∙ over-size (sets g) lent (omega (arith, length-sets g (idsOf g), w .planRoom))) w;
+      inside = omega arith;
+      words =
+          q ∙ (sym (over-over (sets g) (sets g) lent (omega arith))
+          ∙ (ap (over (sets g)) (sym q) ∙ ap (λ (x : List ℕ). over x entry) (sym (mathlib.Core.List.append-nil (sets g)))));
     }
 
 pub write-room : (g offsets s rows : List ℕ) (n : ℕ) → Ordered g offsets s rows n → 0 + length s ≤ n
@@ -113,14 +113,14 @@ plan-given g offsets s rows entry plan r p n w m h e =
     let d = w .ready in
     let l : r < rules g = omega arith in
     record {
-        good = d .good;
-        counts = l;
-        starts = offset-is g offsets r p (d .starts) l e;
-        sets = d .setsAre;
-        noncircular = no-idp-cycle g (d .good) (d .noIdpCycle);
-        ordered = no-edp-cycle g (d .good) (d .noEdpCycle);
-        room = d .size;
-        paths = λ o b. ap (λ (x : List ℕ). word x (64 * r + o)) (d .paths) ∙ over-row g (edpPaths g (idsOf g) (setsOf g (idsOf g))) rows r o l b
+      good = d .good;
+      counts = l;
+      starts = offset-is g offsets r p (d .starts) l e;
+      sets = d .setsAre;
+      noncircular = no-idp-cycle g (d .good) (d .noIdpCycle);
+      ordered = no-edp-cycle g (d .good) (d .noEdpCycle);
+      room = d .size;
+      paths = λ o b. ap (λ (x : List ℕ). word x (64 * r + o)) (d .paths) ∙ over-row g (edpPaths g (idsOf g) (setsOf g (idsOf g))) rows r o l b;
     }
 
 pub plan-fits : (g offsets s rows entry plan : List ℕ) (r : ℕ) → PlanTo g offsets s rows entry plan r → 256 + 112 * rules g ≤ length plan
@@ -133,13 +133,13 @@ unfolding sequencesOf blocks
 plan-turn g offsets s rows entry plan next r n w m h e =
     let block : List ℕ = sequenceWords (sequencesOf g r) in
     record {
-        ready = w .ready;
-        inside = omega arith;
-        words =
-            e ∙ (ap₂ (λ (p : List ℕ) (k : ℕ). written p k block) (w .words) (sym (done-length g r))
-            ∙ (over-written (sets g ++ sequences g r) block entry
-            ∙ ap (λ (x : List ℕ). over x entry) (append-assoc (sets g) (sequences g r) block
-            ∙ ap (λ (k : ℕ). sets g ++ sequences g k) (sym (add-one r)))))
+      ready = w .ready;
+      inside = omega arith;
+      words =
+          e ∙ (ap₂ (λ (p : List ℕ) (k : ℕ). written p k block) (w .words) (sym (done-length g r))
+          ∙ (over-written (sets g ++ sequences g r) block entry
+          ∙ ap (λ (x : List ℕ). over x entry) (append-assoc (sets g) (sequences g r) block
+          ∙ ap (λ (k : ℕ). sets g ++ sequences g k) (sym (add-one r)))));
     }
 
 pub plan-finish : (g offsets s rows lent entry plan : List ℕ) (r n : ℕ) → PlanTo g offsets s rows entry plan r → n ≡ getD g 1 0 → n ≤ r

@@ -7,7 +7,6 @@ use grammar::Verdict;
 use inducing::Cycle;
 use plans::Planned;
 use refusals::Refusal;
-
 ghost use mathlib.Core.Path.{_≡_};
 ghost use lib.ListN.{length};
 ghost use Rattle.plans.specs.Buffers.{over};
@@ -42,7 +41,13 @@ fn write_plan(words: &[u16], offsets: &Offsets, sets: &[u16; 256], rows: &[u64],
 }
 
 // What comes after 9: the sets, EDP and the plan.
-fn plan_noncircular(words: &[u16], offsets: &Offsets, ids: &[u64; 32], rows: &mut [u64], plan: &mut [u16]) -> Planned
+fn plan_noncircular(
+    words: &[u16],
+    offsets: &Offsets,
+    ids: &[u64; 32],
+    rows: &mut [u64],
+    plan: &mut [u16],
+) -> Planned
     requires { ⌜ ready.Noncircular (now words) (now offsets) (now ids) (now rows) (length (now plan)) ⌝ }
     ensures { λ r. ⌜ ready.Came (now (words .entry)) (ready.afterNine (now (words .entry))) (now (rows .entry)) (now (plan .entry)) r (now (rows .exit)) (now (plan .exit)) ⌝ }
 {
@@ -71,7 +76,13 @@ fn plan_relations(words: &[u16], offsets: &Offsets, rows: &mut [u64], plan: &mut
 }
 
 // Plans a grammar whose reading is at hand, so that a caller who needs the offsets again reads the table once.
-pub fn plan_read(words: &[u16], verdict: Verdict, offsets: &[u16; 64], rows: &mut [u64], plan: &mut [u16]) -> Planned
+pub fn plan_read(
+    words: &[u16],
+    verdict: Verdict,
+    offsets: &[u16; 64],
+    rows: &mut [u64],
+    plan: &mut [u16],
+) -> Planned
     requires { ⌜ ready.Reads (now words) verdict (now offsets) ⌝ }
     ensures { λ r. ⌜ answered.Answered (now (words .entry)) (now (rows .entry)) (now (plan .entry)) r (now (rows .exit)) (now (plan .exit)) ⌝ }
 {

@@ -29,7 +29,18 @@ use Rattle.order.specs.Computed.{circular, cycleRule, cycleOccurrence}
 use Rattle.order.proofs.ExactEdp.{edp-path-exact, edp-from}
 use Rattle.order.proofs.Cycles.{cycle-found, cycle-none}
 use Rattle.plans.specs.Answer.{
-    circularIdp, unordered, accepted as accepts, room, stuckIn, idpPaths, edpPaths, afterEdp, afterIdp, afterRoom, afterReading, outcome
+  circularIdp,
+  unordered,
+  accepted as accepts,
+  room,
+  stuckIn,
+  idpPaths,
+  edpPaths,
+  afterEdp,
+  afterIdp,
+  afterRoom,
+  afterReading,
+  outcome,
 }
 
 -- the set words of a table
@@ -93,9 +104,10 @@ module _ (g : List ℕ) (good : readTable g ≡ Good) where
     unfolding afterRoom
     nine k =
         ⊎-elim
-        (λ t.
-            (comes ∙ chosen (circular g (idpPaths g (idsOf g))) (circularIdp (idpCycle g)) (afterIdp g (idsOf g) (setsFor g)) t,
-            cycle-found g (idpPaths g (idsOf g)) (λ r o. IDP⁺ g r o o) idp-exact idp-inside t))
+        (λ t. (
+          comes ∙ chosen (circular g (idpPaths g (idsOf g))) (circularIdp (idpCycle g)) (afterIdp g (idsOf g) (setsFor g)) t,
+          cycle-found g (idpPaths g (idsOf g)) (λ r o. IDP⁺ g r o o) idp-exact idp-inside t,
+        ))
         (λ t. absurd (cycle-none g (idpPaths g (idsOf g)) (λ r o. IDP⁺ g r o o) idp-exact idp-inside t (k .0) (k .2 .0) (k .1) (k .2 .1)))
         (tested (circular g (idpPaths g (idsOf g))))
 
@@ -107,8 +119,8 @@ module _ (g : List ℕ) (good : readTable g ≡ Good) where
         ∙ passed-over (circular g (idpPaths g (idsOf g))) (circularIdp (idpCycle g)) (afterIdp g (idsOf g) (setsFor g))
         (not-T (circular g (idpPaths g (idsOf g)))
         (λ t.
-            let w = cycle-found g (idpPaths g (idsOf g)) (λ r o. IDP⁺ g r o o) idp-exact idp-inside t in
-            none (idpRule g, w .counts, (idpOccurrence g, w .on))))
+        let w = cycle-found g (idpPaths g (idsOf g)) (λ r o. IDP⁺ g r o o) idp-exact idp-inside t in
+        none (idpRule g, w .counts, (idpOccurrence g, w .on))))
 
     -- 10, naming the lowest rule and occurrence, exactly where no IDP has a cycle and some EDP has
     pub ten : (CircularIDP g → ⊥) → (r o : ℕ) → T (ruleCounts g r) → OnCycle (EDP g (setNumber (setsFor g)) r) o
@@ -117,12 +129,13 @@ module _ (g : List ℕ) (good : readTable g ≡ Good) where
     unfolding afterIdp
     ten none r o c p =
         ⊎-elim
+        (λ t. (
+          past-idp none
+              ∙ chosen (circular g (edpPaths g (idsOf g) (setsFor g))) (unordered (edpCycle g)) (afterEdp g (idsOf g) (setsFor g)) t,
+          cycle-found g (edpPaths g (idsOf g) (setsFor g)) (λ r o. OnCycle (EDP g (setNumber (setsFor g)) r) o) edp-exact edp-inside t,
+        ))
         (λ t.
-            (past-idp none
-            ∙ chosen (circular g (edpPaths g (idsOf g) (setsFor g))) (unordered (edpCycle g)) (afterEdp g (idsOf g) (setsFor g)) t,
-            cycle-found g (edpPaths g (idsOf g) (setsFor g)) (λ r o. OnCycle (EDP g (setNumber (setsFor g)) r) o) edp-exact edp-inside t))
-        (λ t.
-            absurd (cycle-none g (edpPaths g (idsOf g) (setsFor g)) (λ r o. OnCycle (EDP g (setNumber (setsFor g)) r) o) edp-exact edp-inside t r o c p))
+        absurd (cycle-none g (edpPaths g (idsOf g) (setsFor g)) (λ r o. OnCycle (EDP g (setNumber (setsFor g)) r) o) edp-exact edp-inside t r o c p))
         (tested (circular g (edpPaths g (idsOf g) (setsFor g))))
 
     -- where the grammar is ordered, planning goes on to the sequences
@@ -133,8 +146,8 @@ module _ (g : List ℕ) (good : readTable g ≡ Good) where
         ∙ passed-over (circular g (edpPaths g (idsOf g) (setsFor g))) (unordered (edpCycle g)) (afterEdp g (idsOf g) (setsFor g))
         (not-T (circular g (edpPaths g (idsOf g) (setsFor g)))
         (λ t.
-            let w = cycle-found g (edpPaths g (idsOf g) (setsFor g)) (λ r o. OnCycle (EDP g (setNumber (setsFor g)) r) o) edp-exact edp-inside t in
-            ordered (edpRule g) (edpOccurrence g) (w .counts) (w .on)))
+        let w = cycle-found g (edpPaths g (idsOf g) (setsFor g)) (λ r o. OnCycle (EDP g (setNumber (setsFor g)) r) o) edp-exact edp-inside t in
+        ordered (edpRule g) (edpOccurrence g) (w .counts) (w .on)))
 
     -- a plan, where the grammar is ordered and no rule gets stuck
     pub planned : (CircularIDP g → ⊥) → Ordered g (setNumber (setsFor g)) → ((r : ℕ) → T (stuckIn g (idsOf g) (setsFor g) r) → ⊥)

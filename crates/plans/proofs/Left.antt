@@ -49,14 +49,16 @@ module _ (g : List ℕ) (good : readTable g ≡ Good) where
   rows-hold paths path lent exact small r o b c h =
       subst⁻¹ (λ (w : ℕ). (bit b w ≡ 1) ↔ path r o b) (over-row g paths lent r o (counts-below g r c) h)
       (⊎-elim
-      (λ l.
-          (λ e. exact r o b c .0 (subst (λ (t : Bool). T t) (hasb-collect 64 b (λ b. paths r o b) l) (eq-T (bit b (collect 64 (λ b. paths r o b))) 1 e)),
-          λ p.
-              eqb→eq (bit b (collect 64 (λ b. paths r o b))) 1
-              (subst⁻¹ (λ (t : Bool). T t) (hasb-collect 64 b (λ b. paths r o b) l) (exact r o b c .1 p))))
-      (λ l.
-          (λ e. absurd (omega (arith, e, bit-collect-above 64 b (λ b. paths r o b) l)),
-          λ p. absurd (omega (arith, small r o b c p))))
+      (λ l. (
+        λ e. exact r o b c .0 (subst (λ (t : Bool). T t) (hasb-collect 64 b (λ b. paths r o b) l) (eq-T (bit b (collect 64 (λ b. paths r o b))) 1 e)),
+        λ p.
+            eqb→eq (bit b (collect 64 (λ b. paths r o b))) 1
+            (subst⁻¹ (λ (t : Bool). T t) (hasb-collect 64 b (λ b. paths r o b) l) (exact r o b c .1 p)),
+      ))
+      (λ l. (
+        λ e. absurd (omega (arith, e, bit-collect-above 64 b (λ b. paths r o b) l)),
+        λ p. absurd (omega (arith, small r o b c p)),
+      ))
       (below-or-not b 64))
 
   -- 9 leaves the paths of IDP
@@ -72,12 +74,12 @@ module _ (g : List ℕ) (good : readTable g ≡ Good) where
     edp-hold rows =
         rows-hold (edpPaths g (idsOf g) (setsOf g (idsOf g))) (EDP⁺ g set) rows
         (λ r o b c.
-            let e = edp-path-exact g good (setsOf g (idsOf g)) r c o b in
-            let f = edp-paths-same g good free set sets r o b in
-            (λ t. f .0 (e .0 t), λ p. e .1 (f .1 p)))
+        let e = edp-path-exact g good (setsOf g (idsOf g)) r c o b in
+        let f = edp-paths-same g good free set sets r o b in
+        (λ t. f .0 (e .0 t), λ p. e .1 (f .1 p)))
         (λ r o b c p.
-            let l = path-last (edp-paths-same g good free set sets r o b .1 p) in
-            occurs-below g (well-formed g good) r b c (edp-to g good (setsOf g (idsOf g)) r c (l .0) b (l .1)))
+        let l = path-last (edp-paths-same g good free set sets r o b .1 p) in
+        occurs-below g (well-formed g good) r b c (edp-to g good (setsOf g (idsOf g)) r c (l .0) b (l .1)))
 
     -- 10 leaves the paths of EDP
     pub ten-holds : (n : Refusal) (rows : List ℕ) → RowsHold g (rowsAfter g (unordered n) rows) (EDP⁺ g set)
@@ -89,9 +91,9 @@ module _ (g : List ℕ) (good : readTable g ≡ Good) where
     unfolding rowsAfter planAfter setNumber
     accepted-written rows plan =
         record {
-            rowBits = edp-hold rows;
-            setWord = λ x a h l. numbers-same g plan x a h l ∙ number-is g good free set sets x a h l;
-            sequence = λ r c out t.
-                subst⁻¹ (λ (l : List ℕ). SequenceStands (over (acceptedPlan g) plan) r l) (sequence-only g good free set sets r c out t)
-                (sequence-stands g plan r (counts-below g r c))
+          rowBits = edp-hold rows;
+          setWord = λ x a h l. numbers-same g plan x a h l ∙ number-is g good free set sets x a h l;
+          sequence = λ r c out t.
+              subst⁻¹ (λ (l : List ℕ). SequenceStands (over (acceptedPlan g) plan) r l) (sequence-only g good free set sets r c out t)
+              (sequence-stands g plan r (counts-below g r c));
         }

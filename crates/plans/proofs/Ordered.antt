@@ -46,12 +46,13 @@ module _ (g : List ℕ) (good : readTable g ≡ Good) where
     accepted-free e =
         let none : CircularIDP g → ⊥ = λ k. differs-idp (sym (nine g good rowsLength planLength space k .0) ∙ e) in
         record {
-            noIdpCycle = none;
-            noEdpCycle = λ r o c p. differs-edp (sym (ten g good rowsLength planLength space none r o c p .0) ∙ e)
+          noIdpCycle = none;
+          noEdpCycle = λ r o c p. differs-edp (sym (ten g good rowsLength planLength space none r o c p .0) ∙ e);
         }
       where
         differs-idp : {n : Refusal} → circularIdp n ≡ accepted → ⊥
         differs-idp q = let z : _≡_ {A = ℕ} 0 1 = cc in omega arith
+
         differs-edp : {n : Refusal} → unordered n ≡ accepted → ⊥
         differs-edp q = let z : _≡_ {A = ℕ} 0 1 = cc in omega arith
 

@@ -94,13 +94,13 @@ module _ (g lent : List ℕ) where
   sequence-stands r h =
       let out : List ℕ = sequencesOf g r in
       record {
-          lengthIs =
-              let e : 256 + 112 * r ≡ 256 + 112 * r + 0 = omega arith in
-              ap (λ (q : ℕ). word p q) e ∙ (block-words r 0 h (omega arith) ∙ block-length out);
-          actionIs = λ j l.
-              let e : 256 + 112 * r + 1 + j ≡ 256 + 112 * r + suc j = omega arith in
-              ap (λ (q : ℕ). word p q) e ∙ (block-words r (suc j) h (omega (arith, planned-short g r)) ∙ block-action out j l);
-          zeros = λ j l m.
-              let e : 256 + 112 * r + 1 + j ≡ 256 + 112 * r + suc j = omega arith in
-              ap (λ (q : ℕ). word p q) e ∙ (block-words r (suc j) h m ∙ block-zero out j l)
+        lengthIs =
+            let e : 256 + 112 * r ≡ 256 + 112 * r + 0 = omega arith in
+            ap (λ (q : ℕ). word p q) e ∙ (block-words r 0 h (omega arith) ∙ block-length out);
+        actionIs = λ j l.
+            let e : 256 + 112 * r + 1 + j ≡ 256 + 112 * r + suc j = omega arith in
+            ap (λ (q : ℕ). word p q) e ∙ (block-words r (suc j) h (omega (arith, planned-short g r)) ∙ block-action out j l);
+        zeros = λ j l m.
+            let e : 256 + 112 * r + 1 + j ≡ 256 + 112 * r + suc j = omega arith in
+            ap (λ (q : ℕ). word p q) e ∙ (block-words r (suc j) h m ∙ block-zero out j l);
       }

@@ -19,8 +19,19 @@ use Rattle.relations.specs.Computed.{idsOf}
 use Rattle.sets.specs.Computed.{setsOf}
 use Rattle.plans.specs.Buffers.{over, rowsOf}
 use Rattle.plans.specs.Answer.{
-    Outcome, untouched, circularIdp, unordered, accepted, room, afterReading, outcome, idpPaths, edpPaths, acceptedPlan, rowsAfter,
-    planAfter
+  Outcome,
+  untouched,
+  circularIdp,
+  unordered,
+  accepted,
+  room,
+  afterReading,
+  outcome,
+  idpPaths,
+  edpPaths,
+  acceptedPlan,
+  rowsAfter,
+  planAfter,
 }
 use Rattle.plans.specs.Left.{Beyond}
 use Rattle.plans.proofs.RowWords.{rows-length, over-size, over-rest}

@@ -3,7 +3,6 @@ use libc::STDOUT_FILENO;
 use refusals::Refusal;
 use runs::Ran;
 use runs::Report;
-
 ghost use mathlib.Core.Path.{_≡_};
 ghost use lib.IntN.{natAbs};
 

@@ -112,7 +112,11 @@ fn symbol_fault(words: &[u16], x: usize) -> Verdict
     let Verdict::Good = second else {
         return second;
     };
-    let third = ranged(words, at + 2, access::inherited_set(words, x) < bits::single(count));
+    let third = ranged(
+        words,
+        at + 2,
+        access::inherited_set(words, x) < bits::single(count),
+    );
     let Verdict::Good = third else {
         return third;
     };
@@ -147,7 +151,10 @@ fn starts(words: &[u16], x: usize) -> bool
 fn start_class(words: &[u16]) -> Verdict
     ensures { λ r. ⌜ r ≡ reading.startClass (now (words .entry)) ⌝ }
 {
-    unless(starts(words, access::word(words, 2)), Refusal::WrongClass(2))
+    unless(
+        starts(words, access::word(words, 2)),
+        Refusal::WrongClass(2),
+    )
 }
 
 // The left symbol of the rule at word p.
@@ -308,7 +315,12 @@ fn body_fault(words: &[u16], p: usize) -> Rule
     let Verdict::Good = few else {
         return stopped(few);
     };
-    functions_fault(words, p, access::occurrence_set(words, p), access::defining_set(words, p))
+    functions_fault(
+        words,
+        p,
+        access::occurrence_set(words, p),
+        access::defining_set(words, p),
+    )
 }
 
 // 6: the rule before the one at word p left no defining occurrence without a function.

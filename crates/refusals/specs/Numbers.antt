@@ -3,8 +3,24 @@
 use Prim.Native.Nat.{ℕ}
 use Rattle.refusals.specs.declared.Refusal.{Refusal}
 use Rattle.refusals.specs.declared.Refusal.the-variants.{
-    EndsEarly, OutOfRange, WrongClass, NoOccurrence, NotDefining, Undefined, LeftOver, TooShort, CircularIdp, CircularEdp, Stuck,
-    TreeSize, NoSuchRule, BadChild, RootNotStart, ChildDiffers, NotOneParent, ValuesTooShort
+  EndsEarly,
+  OutOfRange,
+  WrongClass,
+  NoOccurrence,
+  NotDefining,
+  Undefined,
+  LeftOver,
+  TooShort,
+  CircularIdp,
+  CircularEdp,
+  Stuck,
+  TreeSize,
+  NoSuchRule,
+  BadChild,
+  RootNotStart,
+  ChildDiffers,
+  NotOneParent,
+  ValuesTooShort,
 }
 
 -- the number in the table

@@ -21,9 +21,9 @@ pub count-turn : {test : ℕ → Bool} {end count i : ℕ} (n : ℕ) → Counted
 unfolding changedTo
 count-turn {test} {end} {count} {i} n w h e =
     record {
-        is = ap₂ (λ (a b : ℕ). a + b) (w .is) e ∙ sym (ap (λ (k : ℕ). changedTo test k) (add-one i));
-        few = omega (arith, e, at-most (test i), w .few);
-        inside = omega arith
+      is = ap₂ (λ (a b : ℕ). a + b) (w .is) e ∙ sym (ap (λ (k : ℕ). changedTo test k) (add-one i));
+      few = omega (arith, e, at-most (test i), w .few);
+      inside = omega arith;
     }
 
 -- the same where the test was made by a call

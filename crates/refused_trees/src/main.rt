@@ -8,7 +8,9 @@ ghost use Rattle.refused_trees.specs.Changed as counts;
 
 // What stands in the buffers before: no value, row or plan word of this grammar is the same.
 const VALUE: i32 = 9;
+
 const ROW: u64 = 18446744073709551615;
+
 const WORD: u16 = 65535;
 
 // What an element adds to the count of those that changed.
@@ -64,7 +66,14 @@ fn run_part(tree: &[u16], words: usize, values: &mut [i32], room: usize)
 {
     let mut rows = [ROW; 200];
     let mut plan = [WORD; 600];
-    let report = runner::run(&G, &mut rows, &mut plan, &tree[..words], &mut values[..room], 100);
+    let report = runner::run(
+        &G,
+        &mut rows,
+        &mut plan,
+        &tree[..words],
+        &mut values[..room],
+        100,
+    );
     printing::answer(report);
     printing::word(b" values");
     printing::number(values_changed(values));

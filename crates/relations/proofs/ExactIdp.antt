@@ -20,11 +20,30 @@ use Rattle.relations.specs.Paper.{Path⁺, Stands, IDP, IDS, IDP⁺}
 use Rattle.relations.specs.Computed.{dp, arcIn, inducedArc, idp, idpPath, inducedAt, isInduced, round, rounds, idsOf}
 use Rattle.relations.proofs.PathLaws.{path-map, path-sound, path-complete}
 use Rattle.relations.proofs.Occurrences.{
-    position-of, attribute-of, occurrence-is, counts-below, occurs-stands, dp-sound, dp-complete, dp-argument, stands-symbol,
-    attribute-fits, symbol-at, stands-occurs, occurrences-exact
+  position-of,
+  attribute-of,
+  occurrence-is,
+  counts-below,
+  occurs-stands,
+  dp-sound,
+  dp-complete,
+  dp-argument,
+  stands-symbol,
+  attribute-fits,
+  symbol-at,
+  stands-occurs,
+  occurrences-exact,
 }
 use Rattle.relations.proofs.Rounds.{
-    State, arc-inside, state-ext, empty-arcs, round-state, round-arcs, rounds-keep, ids-state, ids-keeps
+  State,
+  arc-inside,
+  state-ext,
+  empty-arcs,
+  round-state,
+  round-arcs,
+  rounds-keep,
+  ids-state,
+  ids-keeps,
 }
 use Rattle.relations.proofs.Least.{paths-idp, ids-occurs}
 
@@ -124,6 +143,7 @@ module _ (g : List ℕ) where
     module _ (s : List ℕ) (f : Closed s) where
       mutual
         unfolding idp
+
         pub idp-complete : {r a b : ℕ} → IDP g r a b → T (idp g s r a b)
         idp-complete (IDP.direct r a b d) = or-left _ _ (dp-complete g r a b d)
         idp-complete (IDP.induced r i x a b p q v e h l) =
@@ -159,8 +179,8 @@ module _ (g : List ℕ) where
     ids-unique s v f c =
         state-ext g s (idsOf g) v (ids-state g)
         (λ x a b la lb.
-            same-test (arcIn s x a b) (arcIn (idsOf g) x a b) (λ t. ids-complete (idsOf g) ids-closed (f x a b lb t))
-            (λ t. ids-complete s c (ids-sound x a b lb t)))
+        same-test (arcIn s x a b) (arcIn (idsOf g) x a b) (λ t. ids-complete (idsOf g) ids-closed (f x a b lb t))
+        (λ t. ids-complete s c (ids-sound x a b lb t)))
 
 -- the computed IDS is IDS
 pub ids-exact : (g : List ℕ) → readTable g ≡ Good → (x a b : ℕ) → b < mostAttributes → T (arcIn (idsOf g) x a b) ↔ IDS g x a b
@@ -176,6 +196,7 @@ idp-exact g good r a b c =
 -- and its computed paths are its paths
 pub idp-path-exact : (g : List ℕ) → readTable g ≡ Good → (r a b : ℕ) → T (ruleCounts g r) → T (idpPath g (idsOf g) r a b) ↔ IDP⁺ g r a b
 idp-path-exact g good r a b c =
-    let w = accepted g good in
-    (λ t. paths-sound g (idsOf g) (ids-sound g) r c (idp-path-computed g w (idsOf g) r a b c .0 t),
-    λ p. idp-path-computed g w (idsOf g) r a b c .1 (paths-complete g w (idsOf g) (ids-closed g w) p))
+    let w = accepted g good in (
+      λ t. paths-sound g (idsOf g) (ids-sound g) r c (idp-path-computed g w (idsOf g) r a b c .0 t),
+      λ p. idp-path-computed g w (idsOf g) r a b c .1 (paths-complete g w (idsOf g) (ids-closed g w) p),
+    )

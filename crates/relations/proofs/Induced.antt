@@ -10,15 +10,32 @@ use Rattle.bits.specs.Bit.{bit, hasb}
 use Rattle.bits.proofs.BitLaws.{bit-of-zero}
 use Rattle.basics.proofs.TestLaws.{and-right, true-T}
 use Rattle.grammar.specs.Table.{
-    symbols, rules, kind, mask, symbolOf, occurrence, occurrenceOf, position, attribute, inheritedAt, definingClass, defining,
-    ruleCounts
+  symbols,
+  rules,
+  kind,
+  mask,
+  symbolOf,
+  occurrence,
+  occurrenceOf,
+  position,
+  attribute,
+  inheritedAt,
+  definingClass,
+  defining,
+  ruleCounts,
 }
 use Rattle.grammar.specs.WellFormed.{WellFormed}
 use Rattle.grammar.proofs.AcceptedTable.{defining-occurs}
 use Rattle.relations.specs.Paper.{Path⁺, OnCycle, Stands, IDP, IDS, IDP⁺}
 use Rattle.relations.proofs.PathLaws.{path-closed, path-first, path-last}
 use Rattle.relations.proofs.Occurrences.{
-    counts-below, occurs-inside, dp-target, dp-argument, stands-symbol, symbol-at, stands-occurs
+  counts-below,
+  occurs-inside,
+  dp-target,
+  dp-argument,
+  stands-symbol,
+  symbol-at,
+  stands-occurs,
 }
 use Rattle.relations.proofs.Least.{ids-occurs, idp-paths}
 
@@ -76,8 +93,10 @@ module _ (g : List ℕ) where
       where
         x : ℕ
         x = symbolOf g r (position o)
+
         h : r < rules g
         h = counts-below g r c
+
         go : (b : Bool) → eqb (position o) 0 ≡ b → T (cond b (not (hasb (attribute o) (mask g x))) (hasb (attribute o) (mask g x))) → ⊥
         go true e u =
             let z : position o ≡ 0 = eqb→eq (position o) 0 (true-T (eqb (position o) 0) e) in

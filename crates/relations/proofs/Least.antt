@@ -33,9 +33,9 @@ module _ (g : List ℕ) where
   pub idp-inducing : Inducing g (λ r a b. IDP g r a b)
   idp-inducing =
       record {
-          hasDirect = λ r a b d. IDP.direct r a b d;
-          hasInduced = λ x a b h l r i s q p j t.
-              IDP.induced p j x a b (occurrenceOf j a) (occurrenceOf j b) t (IDS.from r i x a b s h l (paths-idp g q)) refl refl
+        hasDirect = λ r a b d. IDP.direct r a b d;
+        hasInduced = λ x a b h l r i s q p j t.
+            IDP.induced p j x a b (occurrenceOf j a) (occurrenceOf j b) t (IDS.from r i x a b s h l (paths-idp g q)) refl refl;
       }
 
   module _ (Q : ℕ → ℕ → ℕ → Type 0) (q : Inducing g Q) where

@@ -11,7 +11,17 @@ use Rattle.basics.proofs.TestLaws.{and-intro, and-left, and-right, some-at, som
 use Rattle.basics.proofs.ListLaws.{member-passing, passing-member}
 use Rattle.grammar.specs.Limits.{mostOccurrences, mostAttributes}
 use Rattle.grammar.specs.Table.{
-    symbols, rules, attributes, rightLength, symbolOf, occurrence, occurrenceOf, position, attribute, defining, ruleCounts
+  symbols,
+  rules,
+  attributes,
+  rightLength,
+  symbolOf,
+  occurrence,
+  occurrenceOf,
+  position,
+  attribute,
+  defining,
+  ruleCounts,
 }
 use Rattle.grammar.specs.WellFormed.{WellFormed}
 use Rattle.grammar.proofs.AcceptedTable.{occurrence-fits}
@@ -55,8 +65,12 @@ module _ (g : List ℕ) where
       let k = some-find _ _ t in
       let j = some-find _ _ (and-right _ _ (k .2)) in
       record {
-          function = k .0; functionFits = k .1; targetIs = eqb→eq _ _ (and-left _ _ (k .2)); place = j .0; placeFits = j .1;
-          argumentIs = eqb→eq _ _ (j .2)
+        function = k .0;
+        functionFits = k .1;
+        targetIs = eqb→eq _ _ (and-left _ _ (k .2));
+        place = j .0;
+        placeFits = j .1;
+        argumentIs = eqb→eq _ _ (j .2);
       }
 
   pub dp-complete : (r a b : ℕ) → DP g r a b → T (dp g r a b)
@@ -98,7 +112,7 @@ module _ (g : List ℕ) where
         let h : a < mostAttributes = attribute-fits x a (stands-symbol r i x s) l in
         let inside : position (occurrenceOf i a) ≤ rightLength g r = omega (arith, s .inside) in
         let fits : attribute (occurrenceOf i a) < attributes g (symbolOf g r (position (occurrenceOf i a))) =
-                omega (arith, ap (λ (y : ℕ). attributes g y) (symbol-at r i x a s l)) in
+        omega (arith, ap (λ (y : ℕ). attributes g y) (symbol-at r i x a s l)) in
         and-intro _ _ (le→leb _ _ inside) (lt→ltb _ _ fits)
 
     -- an occurrence of a rule that counts is below 64

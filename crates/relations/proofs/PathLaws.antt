@@ -72,17 +72,17 @@ module _ (arc : ℕ → ℕ → Bool) where
   path-composes (h ∷ ms) a m b i s t =
       ⊎-elim
       (λ e.
-          by (once-first _ _ (subst (λ (k : ℕ). T (path arc ms a k or (path arc ms a h and path arc ms h k))) e s))
-          (once-second _ _ (subst (λ (k : ℕ). T (path arc ms k b or (path arc ms k h and path arc ms h b))) e t)))
+      by (once-first _ _ (subst (λ (k : ℕ). T (path arc ms a k or (path arc ms a h and path arc ms h k))) e s))
+      (once-second _ _ (subst (λ (k : ℕ). T (path arc ms k b or (path arc ms k h and path arc ms h b))) e t)))
       (λ j.
-          ⊎-elim
-          (λ am.
-              ⊎-elim (λ mb. or-left _ _ (path-composes ms a m b j am mb))
-              (λ mhb. by (path-composes ms a m h j am (and-left _ _ mhb)) (and-right _ _ mhb)) (or-cases _ _ t))
-          (λ ahm.
-              by (and-left _ _ ahm)
-              (⊎-elim (λ mb. path-composes ms h m b j (and-right _ _ ahm) mb) (λ mhb. and-right _ _ mhb) (or-cases _ _ t)))
-          (or-cases _ _ s))
+      ⊎-elim
+      (λ am.
+      ⊎-elim (λ mb. or-left _ _ (path-composes ms a m b j am mb))
+      (λ mhb. by (path-composes ms a m h j am (and-left _ _ mhb)) (and-right _ _ mhb)) (or-cases _ _ t))
+      (λ ahm.
+      by (and-left _ _ ahm)
+      (⊎-elim (λ mb. path-composes ms h m b j (and-right _ _ ahm) mb) (λ mhb. and-right _ _ mhb) (or-cases _ _ t)))
+      (or-cases _ _ s))
       (member-cases m h ms i)
     where
       by : T (path arc ms a h) → T (path arc ms h b) → T (path arc ms a b or (path arc ms a h and path arc ms h b))

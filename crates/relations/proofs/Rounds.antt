@@ -15,7 +15,19 @@ use Rattle.bits.proofs.MemberLaws.{hasb-collect, hasb-below, hasb-ext}
 use Rattle.basics.specs.Tests.{_or_, _implies_, all, count}
 use Rattle.basics.specs.Lists.{word}
 use Rattle.basics.proofs.TestLaws.{
-    or-left, or-right, implies-use, implies-fails, tested, same-test, eq-T, below-or-not, all-at, all-intro, all-fails, count-le, count-more
+  or-left,
+  or-right,
+  implies-use,
+  implies-fails,
+  tested,
+  same-test,
+  eq-T,
+  below-or-not,
+  all-at,
+  all-intro,
+  all-fails,
+  count-le,
+  count-more,
 }
 use Rattle.basics.proofs.ListLaws.{length-tabulate, getD-tabulate}
 use Rattle.grammar.specs.Limits.{mostAttributes}
@@ -33,8 +45,8 @@ module _ (g : List ℕ) where
   state-inside s v x k t =
       ⊎-elim (λ l. l)
       (λ l.
-          let z : word s x ≡ 0 = List·getD-eq-default s 0 {n = x} (omega (arith, v .sized)) in
-          absurd (omega (arith, hasb-below 0 k (word s x) (omega arith) t)))
+      let z : word s x ≡ 0 = List·getD-eq-default s 0 {n = x} (omega (arith, v .sized)) in
+      absurd (omega (arith, hasb-below 0 k (word s x) (omega arith) t)))
       (below-or-not x (symbols g))
 
   -- an arc of a state is one of a symbol of the table, and starts at one of eight attributes
@@ -50,10 +62,10 @@ module _ (g : List ℕ) where
   state-ext s t v w e =
       ext-getD 0 s t (v .sized ∙ sym (w .sized))
       (λ x h.
-          hasb-ext 64 (word s x) (word t x) (v .fits x) (w .fits x)
-          (λ k l.
-              let i : 8 * (k / 8) + k % 8 ≡ k = omega arith in
-              subst (λ (j : ℕ). hasb j (word s x) ≡ hasb j (word t x)) i (e x (k / 8) (k % 8) (omega arith) (omega arith))))
+      hasb-ext 64 (word s x) (word t x) (v .fits x) (w .fits x)
+      (λ k l.
+      let i : 8 * (k / 8) + k % 8 ≡ k = omega arith in
+      subst (λ (j : ℕ). hasb j (word s x) ≡ hasb j (word t x)) i (e x (k / 8) (k % 8) (omega arith) (omega arith))))
 
   -- the empty state is a state, with no arc
   empty-word : (x : ℕ) → word (replicate (symbols g) 0) x ≡ 0
@@ -82,12 +94,13 @@ module _ (g : List ℕ) where
     where
       size : length (round g s) ≡ symbols g
       size = unfold round in length-tabulate (symbols g) (λ x. collect 64 (λ k. hasb k (word s x) or isInduced g s x (k / 8) (k % 8)))
+
       fits : (x : ℕ) → word (round g s) x < 2 ^ 64
       fits x =
           ⊎-elim
           (λ l.
-              subst⁻¹ (λ (n : ℕ). n < 2 ^ 64) (round-word s x l)
-              (collect-lt 64 (λ k. hasb k (word s x) or isInduced g s x (k / 8) (k % 8))))
+          subst⁻¹ (λ (n : ℕ). n < 2 ^ 64) (round-word s x l)
+          (collect-lt 64 (λ k. hasb k (word s x) or isInduced g s x (k / 8) (k % 8))))
           (λ l. omega (arith, List·getD-eq-default (round g s) 0 {n = x} (omega (arith, size))))
           (below-or-not x (symbols g))
 
@@ -150,29 +163,31 @@ module _ (g : List ℕ) where
   round-adds s v n =
       ⊎-elim (λ t. absurd (T-not (sameState g s (round g s)) n (same-intro s (round g s) (λ x h. nothing-new t x h))))
       (λ t.
-          let j = all-fails (64 * symbols g) (λ j. new j implies old j) t in
-          let d = implies-fails (new (j .0)) (old (j .0)) (j .2) in
-          count-more (64 * symbols g) old new (λ j h. round-keeps s v (j / 64) (j % 64)) (j .0) (j .1) (d .1) (d .0))
+      let j = all-fails (64 * symbols g) (λ j. new j implies old j) t in
+      let d = implies-fails (new (j .0)) (old (j .0)) (j .2) in
+      count-more (64 * symbols g) old new (λ j h. round-keeps s v (j / 64) (j % 64)) (j .0) (j .1) (d .1) (d .0))
       (tested (all (64 * symbols g) (λ j. new j implies old j)))
     where
       old : ℕ → Bool
       old j = hasb (j % 64) (word s (j / 64))
+
       new : ℕ → Bool
       new j = hasb (j % 64) (word (round g s) (j / 64))
+
       nothing-new : T (all (64 * symbols g) (λ j. new j implies old j)) → (x : ℕ) → x < symbols g → word s x ≡ word (round g s) x
       nothing-new t x h =
           hasb-ext 64 (word s x) (word (round g s) x) (v .fits x) (round-state s .fits x)
           (λ k l.
-              same-test (hasb k (word s x)) (hasb k (word (round g s) x)) (λ p. round-keeps s v x k p)
-              (λ p.
-                  let i : (64 * x + k) / 64 ≡ x = omega arith in
-                  let m : (64 * x + k) % 64 ≡ k = omega arith in
-                  subst (λ (y : ℕ). T (hasb k (word s y))) i
-                  (subst (λ (c : ℕ). T (hasb c (word s ((64 * x + k) / 64)))) m
-                  (implies-use (new (64 * x + k)) (old (64 * x + k))
-                  (all-at (64 * symbols g) (λ j. new j implies old j) t (64 * x + k) (omega arith))
-                  (subst⁻¹ (λ (c : ℕ). T (hasb c (word (round g s) ((64 * x + k) / 64)))) m
-                  (subst⁻¹ (λ (y : ℕ). T (hasb k (word (round g s) y))) i p))))))
+          same-test (hasb k (word s x)) (hasb k (word (round g s) x)) (λ p. round-keeps s v x k p)
+          (λ p.
+          let i : (64 * x + k) / 64 ≡ x = omega arith in
+          let m : (64 * x + k) % 64 ≡ k = omega arith in
+          subst (λ (y : ℕ). T (hasb k (word s y))) i
+          (subst (λ (c : ℕ). T (hasb c (word s ((64 * x + k) / 64)))) m
+          (implies-use (new (64 * x + k)) (old (64 * x + k))
+          (all-at (64 * symbols g) (λ j. new j implies old j) t (64 * x + k) (omega arith))
+          (subst⁻¹ (λ (c : ℕ). T (hasb c (word (round g s) ((64 * x + k) / 64)))) m
+          (subst⁻¹ (λ (y : ℕ). T (hasb k (word (round g s) y))) i p))))))
 
   -- after as many rounds as there are arcs to add, a round adds nothing
   rounds-fixed : (n : ℕ) (s : List ℕ) → State s → 64 * symbols g ≤ n + arcs s → T (sameState g (rounds g n s) (round g (rounds g n s)))
@@ -185,8 +200,8 @@ module _ (g : List ℕ) where
   rounds-fixed (suc n) s v h =
       ⊎-elim (λ c. subst⁻¹ (λ (t : List ℕ). T (sameState g t (round g t))) (c .1) (c .0))
       (λ c.
-          subst⁻¹ (λ (t : List ℕ). T (sameState g t (round g t))) (c .1)
-          (rounds-fixed n (round g s) (round-state s) (omega (arith, round-adds s v (c .0)))))
+      subst⁻¹ (λ (t : List ℕ). T (sameState g t (round g t))) (c .1)
+      (rounds-fixed n (round g s) (round-state s) (omega (arith, round-adds s v (c .0)))))
       (rounds-cases n s)
 
   -- what the rounds end with is a state, and a round more adds nothing to it

@@ -11,8 +11,20 @@ use Rattle.basics.specs.Tests.{_and_, _or_, some, all}
 use Rattle.basics.specs.Lists.{word, tabulate, passing}
 use Rattle.grammar.specs.Limits.{mostOccurrences}
 use Rattle.grammar.specs.Table.{
-    symbols, rules, attributes, functions, target, argument, arguments, rightLength, symbolOf, occurrence, occurrenceOf, position,
-    attribute, ruleCounts
+  symbols,
+  rules,
+  attributes,
+  functions,
+  target,
+  argument,
+  arguments,
+  rightLength,
+  symbolOf,
+  occurrence,
+  occurrenceOf,
+  position,
+  attribute,
+  ruleCounts,
 }
 use Rattle.relations.specs.Paths.{path}
 

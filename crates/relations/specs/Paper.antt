@@ -6,7 +6,15 @@ use mathlib.Core.Path.{_≡_}
 use mathlib.Core.List.{List}
 use lib.Dec.{T}
 use Rattle.grammar.specs.Table.{
-    functions, target, argument, arguments, rightLength, symbolOf, attributes, occurrenceOf, ruleCounts
+  functions,
+  target,
+  argument,
+  arguments,
+  rightLength,
+  symbolOf,
+  attributes,
+  occurrenceOf,
+  ruleCounts,
 }
 
 -- a path of one arc or more

@@ -23,8 +23,18 @@ use Rattle.sets.specs.Visits.{setNumber, highest, lastSet, visits}
 use Rattle.access.specs.ByPlace.{symbolFrom, definingsAt, Shaped}
 use Rattle.access.proofs.Blocks.{block-more, collect-rest, below-small}
 use Rattle.remaining.specs.RuleSets.{
-    setMask, inheritedMask, synthesizedMask, childVisits, madeAttributes, visitFrom, madeFrom, visitReady, Few, Started, handedUp,
-    handedDown
+  setMask,
+  inheritedMask,
+  synthesizedMask,
+  childVisits,
+  madeAttributes,
+  visitFrom,
+  madeFrom,
+  visitReady,
+  Few,
+  Started,
+  handedUp,
+  handedDown,
 }
 use Rattle.remaining.proofs.MaskLaws.{mask-small, no-member}
 

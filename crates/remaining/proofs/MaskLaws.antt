@@ -50,9 +50,9 @@ module _ (g s : List ℕ) (p : ℕ) where
   up-at b o t =
       ⊎-elim (λ l. absurd (subst (λ (b : Bool). T b) (raised-low (8 * (b / 8)) o _ l) t))
       (λ l.
-          let v = in-set s (symbolFrom g p (b / 8)) _ (o - 8 * (b / 8)) (subst (λ (b : Bool). T b) (has-raised (8 * (b / 8)) o _ l) t) in
-          let e : o - 8 * (b / 8) ≡ o % 8 = omega (arith, v .0) in
-          (omega (arith, v .0), ap (λ (a : ℕ). setNumber s (symbolFrom g p (b / 8)) a) (sym e) ∙ v .1))
+      let v = in-set s (symbolFrom g p (b / 8)) _ (o - 8 * (b / 8)) (subst (λ (b : Bool). T b) (has-raised (8 * (b / 8)) o _ l) t) in
+      let e : o - 8 * (b / 8) ≡ o % 8 = omega (arith, v .0) in
+      (omega (arith, v .0), ap (λ (a : ℕ). setNumber s (symbolFrom g p (b / 8)) a) (sym e) ∙ v .1))
       (below-or-not o (8 * (b / 8)))
 
   pub at-up : (b o : ℕ) → o / 8 ≡ b / 8
@@ -86,16 +86,16 @@ module _ (g s : List ℕ) (p : ℕ) where
   unfolding visitReady inheritedMask
   passes left waiting b t =
       record {
-          next = λ k l u.
-              let f : IsLowest 64 (field (8 * (b / 8)) left) (lowest 64 (field (8 * (b / 8)) left)) = lowest-is 64 (field (8 * (b / 8)) left) in
-              let m : b % 8 ≤ lowest 64 (field (8 * (b / 8)) left) = leb→le _ _ (and-left _ _ t) in
-              T-not (hasb k (field (8 * (b / 8)) left)) (false-T _ (bit-lacks k _ (f .free k (omega arith))))
-              (subst⁻¹ (λ (x : Bool). T x) (has-field (8 * (b / 8)) k left (omega arith)) u);
-          handed = λ a l u e.
-              T-not (hasb a 0) (none-left a)
-              (subst (λ (x : ℕ). T (hasb a x)) (eqb→eq _ _ (and-right _ _ t))
-              (both-common a _ _ (subst⁻¹ (λ (x : Bool). T x) (has-field (8 * (b / 8)) a waiting l) u)
-              (set-in s (symbolFrom g p (b / 8)) _ a l e)))
+        next = λ k l u.
+            let f : IsLowest 64 (field (8 * (b / 8)) left) (lowest 64 (field (8 * (b / 8)) left)) = lowest-is 64 (field (8 * (b / 8)) left) in
+            let m : b % 8 ≤ lowest 64 (field (8 * (b / 8)) left) = leb→le _ _ (and-left _ _ t) in
+            T-not (hasb k (field (8 * (b / 8)) left)) (false-T _ (bit-lacks k _ (f .free k (omega arith))))
+            (subst⁻¹ (λ (x : Bool). T x) (has-field (8 * (b / 8)) k left (omega arith)) u);
+        handed = λ a l u e.
+            T-not (hasb a 0) (none-left a)
+            (subst (λ (x : ℕ). T (hasb a x)) (eqb→eq _ _ (and-right _ _ t))
+            (both-common a _ _ (subst⁻¹ (λ (x : Bool). T x) (has-field (8 * (b / 8)) a waiting l) u)
+            (set-in s (symbolFrom g p (b / 8)) _ a l e)));
       }
 
   pub passing : (left waiting b : ℕ) → Passes left waiting b → T (visitReady g s p left waiting b)
@@ -104,9 +104,9 @@ module _ (g s : List ℕ) (p : ℕ) where
       and-intro _ _ (⊎-elim low (λ l. le→leb _ _ l) (below-or-not (lowest 64 (field (8 * (b / 8)) left)) (b % 8)))
       (eq-T _ _ (no-member 8 (common (field (8 * (b / 8)) waiting) (setMask s (symbolFrom g p (b / 8)) _)) (common-lt 8 _ _ (field-lt (8 * (b / 8)) waiting))
       (λ a t.
-          let v = common-both a (field (8 * (b / 8)) waiting) _ t in
-          let u = in-set s (symbolFrom g p (b / 8)) _ a (v .1) in
-          w .handed a (u .0) (subst (λ (x : Bool). T x) (has-field (8 * (b / 8)) a waiting (u .0)) (v .0)) (u .1))))
+      let v = common-both a (field (8 * (b / 8)) waiting) _ t in
+      let u = in-set s (symbolFrom g p (b / 8)) _ a (v .1) in
+      w .handed a (u .0) (subst (λ (x : Bool). T x) (has-field (8 * (b / 8)) a waiting (u .0)) (v .0)) (u .1))))
     where
       low : lowest 64 (field (8 * (b / 8)) left) < b % 8 → T (leb (b % 8) (lowest 64 (field (8 * (b / 8)) left)))
       low l =

@@ -53,8 +53,8 @@ module _ (c v l : ℕ) where
   pub less-compute : (o : ℕ) → o < 64 → Less (remains c v l) (remains (remove o c) v l) o
   less-compute o h =
       record {
-          gone = λ t. T-not (hasb o (remove o c)) (has-not o c) (subst (λ (b : Bool). T b) (remains-compute (remove o c) v l o h) t);
-          others = λ k n. go k n (kind-of k)
+        gone = λ t. T-not (hasb o (remove o c)) (has-not o c) (subst (λ (b : Bool). T b) (remains-compute (remove o c) v l o h) t);
+        others = λ k n. go k n (kind-of k);
       }
     where
       go : (k : ℕ) → (k ≡ o → ⊥) → Kind k → remains (remove o c) v l k ≡ remains c v l k
@@ -69,8 +69,8 @@ module _ (c v l : ℕ) where
   pub less-visit : (o : ℕ) → o < 64 → Less (remains c v l) (remains c (remove o v) l) (64 + o)
   less-visit o h =
       record {
-          gone = λ t. T-not (hasb o (remove o v)) (has-not o v) (subst (λ (b : Bool). T b) (remains-visit c (remove o v) l o h) t);
-          others = λ k n. go k n (kind-of k)
+        gone = λ t. T-not (hasb o (remove o v)) (has-not o v) (subst (λ (b : Bool). T b) (remains-visit c (remove o v) l o h) t);
+        others = λ k n. go k n (kind-of k);
       }
     where
       go : (k : ℕ) → (k ≡ 64 + o → ⊥) → Kind k → remains c (remove o v) l k ≡ remains c v l k
@@ -85,8 +85,8 @@ module _ (c v l : ℕ) where
   pub less-leave : (o : ℕ) → Less (remains c v l) (remains c v (remove o l)) (128 + o)
   less-leave o =
       record {
-          gone = λ t. T-not (hasb o (remove o l)) (has-not o l) (subst (λ (b : Bool). T b) (remains-leave c v (remove o l) o) t);
-          others = λ k n. go k n (kind-of k)
+        gone = λ t. T-not (hasb o (remove o l)) (has-not o l) (subst (λ (b : Bool). T b) (remains-leave c v (remove o l) o) t);
+        others = λ k n. go k n (kind-of k);
       }
     where
       go : (k : ℕ) → (k ≡ 128 + o → ⊥) → Kind k → remains c v (remove o l) k ≡ remains c v l k

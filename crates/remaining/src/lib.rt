@@ -169,7 +169,14 @@ pub fn start(words: &[u16], p: usize, sets: &[u16]) -> State
 }
 
 // Visit b is ready: it is the next one of its child, and none of the inherited attributes that it takes along waits.
-pub fn visit_ready(words: &[u16], p: usize, sets: &[u16], visits: u64, waiting: u64, b: usize) -> bool
+pub fn visit_ready(
+    words: &[u16],
+    p: usize,
+    sets: &[u16],
+    visits: u64,
+    waiting: u64,
+    b: usize,
+) -> bool
     requires { ⌜ (p < 65536) × (b < 64) ⌝ }
     requires { ⌜ b % 8 < visiting.visits (now sets) (places.symbolFrom (now words) p (b / 8)) ⌝ }
     ensures { λ r. ⌜ r ≡ masks.visitReady (now (words .entry)) (now (sets .entry)) p visits waiting b ⌝ }

@@ -12,9 +12,13 @@ use Rattle.runner.specs.Answered.{Answered}
 
 pub every-input : (g rows plan t : List ℕ) (vs : List ℤ) (budget : ℕ)
     → (report : Report) × (vs′ : List ℤ) × (rows′ : List ℕ) × (plan′ : List ℕ) × Answered g rows plan t vs budget report vs′ rows′ plan′
-every-input g rows plan t vs budget =
-    (record { ran = answer g rows plan t vs budget }, values g rows plan t vs budget, rowsAfter g (came g rows plan) rows, planAfter g (came g rows plan) plan,
-    record { answers = refl; valuesAre = refl; rowsAre = refl; planIs = refl })
+every-input g rows plan t vs budget = (
+  record { ran = answer g rows plan t vs budget },
+  values g rows plan t vs budget,
+  rowsAfter g (came g rows plan) rows,
+  planAfter g (came g rows plan) plan,
+  record { answers = refl; valuesAre = refl; rowsAre = refl; planIs = refl },
+)
 
 pub one-answer : (g rows plan t : List ℕ) (vs : List ℤ) (budget : ℕ) (a b : Report) (vs₁ : List ℤ) (rows₁ plan₁ : List ℕ) (vs₂ : List ℤ)
     (rows₂ plan₂ : List ℕ) → Answered g rows plan t vs budget a vs₁ rows₁ plan₁ → Answered g rows plan t vs budget b vs₂ rows₂ plan₂

@@ -16,7 +16,15 @@ use Rattle.access.specs.Offsets.{offsetsFor}
 use Rattle.plans.specs.declared.Planned as P
 use Rattle.plans.specs.Buffers.{over}
 use Rattle.plans.specs.Answer.{
-    Outcome, untouched, circularIdp, unordered, accepted, outcome, answerOf, planAfter, acceptedPlan
+  Outcome,
+  untouched,
+  circularIdp,
+  unordered,
+  accepted,
+  outcome,
+  answerOf,
+  planAfter,
+  acceptedPlan,
 }
 use Rattle.plans.proofs.Ordered.{CycleFree, accepted-free}
 use Rattle.planner.specs.Answered as planner
@@ -39,8 +47,8 @@ unfolding runAnswer valuesAfter
 tree-refused g p t vs budget v n e f =
     let q : checkTree g t (length vs) ≡ Refused n = sym e ∙ f in
     record {
-        answers = sym (ap (λ (x : Verdict). runAnswer g p t accepted x vs budget) q);
-        valuesAre = sym (ap (λ (x : Verdict). valuesAfter g p t accepted x vs budget) q)
+      answers = sym (ap (λ (x : Verdict). runAnswer g p t accepted x vs budget) q);
+      valuesAre = sym (ap (λ (x : Verdict). valuesAfter g p t accepted x vs budget) q);
     }
 
 pub tree-ran : (g p t : List ℕ) (vs : List ℤ) (budget : ℕ) (v : Verdict) (r : R.Ran) (next : List ℤ) → v ≡ checkTree g t (length vs) → v ≡ Good
@@ -50,8 +58,8 @@ unfolding runAnswer valuesAfter
 tree-ran g p t vs budget v r next e f a b =
     let q : checkTree g t (length vs) ≡ Good = sym e ∙ f in
     record {
-        answers = a ∙ sym (ap (λ (x : Verdict). runAnswer g p t accepted x vs budget) q);
-        valuesAre = b ∙ sym (ap (λ (x : Verdict). valuesAfter g p t accepted x vs budget) q)
+      answers = a ∙ sym (ap (λ (x : Verdict). runAnswer g p t accepted x vs budget) q);
+      valuesAre = b ∙ sym (ap (λ (x : Verdict). valuesAfter g p t accepted x vs budget) q);
     }
 
 pub tree-good : (g t : List ℕ) (n : ℕ) (v : Verdict) → v ≡ checkTree g t n → v ≡ Good → checkTree g t n ≡ Good
@@ -74,10 +82,10 @@ module _ (g : List ℕ) where
       let o : CycleFree g = accepted-free g (b .0) (length rows) (length plan) (b .1) e in
       let room : planWords (rules g) ≤ length plan = plan-room g (length rows) (length plan) (b .1) in
       record {
-          good = b .0;
-          starts = s ∙ ap (offsetsFor g) (b .0);
-          soundPlan = planned-sound g (b .0) plan (o .noIdpCycle) (o .noEdpCycle);
-          long = omega (arith, over-size (acceptedPlan g) plan (omega (arith, plan-length g plan)))
+        good = b .0;
+        starts = s ∙ ap (offsetsFor g) (b .0);
+        soundPlan = planned-sound g (b .0) plan (o .noIdpCycle) (o .noEdpCycle);
+        long = omega (arith, over-size (acceptedPlan g) plan (omega (arith, plan-length g plan)));
       }
 
 -- what planning answered and left settles the rest
@@ -104,12 +112,12 @@ module _ (g rows plan : List ℕ) (planned : P.Planned) (rows′ plan′ : List 
         let q = is-accepted g (outcome g (length rows) (length plan)) n (sym e ∙ w .answers) in
         let v : Verdict = checkTree g t (length vs) in
         record {
-            answers =
-                d .answers ∙ (ap (λ (p : List ℕ). runAnswer g p t accepted v vs budget) (w .planIs)
-                ∙ ap (λ (o : Outcome). runAnswer g (leftPlan g rows plan) t o v vs budget) (sym q));
-            valuesAre =
-                d .valuesAre ∙ (ap (λ (p : List ℕ). valuesAfter g p t accepted v vs budget) (w .planIs)
-                ∙ ap (λ (o : Outcome). valuesAfter g (leftPlan g rows plan) t o v vs budget) (sym q));
-            rowsAre = w .rowsAre;
-            planIs = w .planIs
+          answers =
+              d .answers ∙ (ap (λ (p : List ℕ). runAnswer g p t accepted v vs budget) (w .planIs)
+              ∙ ap (λ (o : Outcome). runAnswer g (leftPlan g rows plan) t o v vs budget) (sym q));
+          valuesAre =
+              d .valuesAre ∙ (ap (λ (p : List ℕ). valuesAfter g p t accepted v vs budget) (w .planIs)
+              ∙ ap (λ (o : Outcome). valuesAfter g (leftPlan g rows plan) t o v vs budget) (sym q));
+          rowsAre = w .rowsAre;
+          planIs = w .planIs;
         }

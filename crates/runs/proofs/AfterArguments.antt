@@ -11,26 +11,73 @@ use lib.IntN.{ℤ}
 use Rattle.basics.specs.Lists.{word}
 use Rattle.basics.proofs.TestLaws.{same-or-not}
 use Rattle.grammar.specs.Table.{
-    rules, start, nonterminal, inherited, rightLength, symbolOf, functions, target, argument, arguments, position, attribute,
-    occurrence, inheritedAt
+  rules,
+  start,
+  nonterminal,
+  inherited,
+  rightLength,
+  symbolOf,
+  functions,
+  target,
+  argument,
+  arguments,
+  position,
+  attribute,
+  occurrence,
+  inheritedAt,
 }
 use Rattle.grammar.proofs.AcceptedTable.{occurrence-fits}
 use Rattle.grammar.proofs.OccurrenceLaws.{none-inherited, occurs-inside}
 use Rattle.sets.specs.Visits.{visitOf}
 use Rattle.sequences.specs.Actions.{
-    Action, compute, visit, leave, none, decode, belongs, visitAt, inheritedOf, synthesizedOf, makes
+  Action,
+  compute,
+  visit,
+  leave,
+  none,
+  decode,
+  belongs,
+  visitAt,
+  inheritedOf,
+  synthesizedOf,
+  makes,
 }
 use Rattle.sequences.proofs.ActionLaws.{
-    belongs-visit, Decoded, isCompute, isVisit, isLeave, isNone, decoded, decode-compute, OfVisit, inherited-of, of-inherited, synthesized-of,
-    of-synthesized, makes-compute, makes-visit, makes-leave, makes-none
+  belongs-visit,
+  Decoded,
+  isCompute,
+  isVisit,
+  isLeave,
+  isNone,
+  decoded,
+  decode-compute,
+  OfVisit,
+  inherited-of,
+  of-inherited,
+  synthesized-of,
+  of-synthesized,
+  makes-compute,
+  makes-visit,
+  makes-leave,
+  makes-none,
 }
 use Rattle.trees.specs.Tree.{nodes, ruleOf, appliesRule, child, symbolAtNode, nodeAt, cell}
 use Rattle.trees.specs.Formed.{ChildOf, Parent}
 use Rattle.trees.specs.Definers.{DefinedAt, AttributeOf}
 use Rattle.trees.proofs.AcceptedTree.{rule-symbol}
 use Rattle.trees.proofs.Cells.{
-    node-left, node-child, node-at-inside, node-at-symbol, cell-is, occurrence-attribute, attribute-eight,
-    child-of, applies-nonterminal, nonterminal-applies, occurs-there, cell-there
+  node-left,
+  node-child,
+  node-at-inside,
+  node-at-symbol,
+  cell-is,
+  occurrence-attribute,
+  attribute-eight,
+  child-of,
+  applies-nonterminal,
+  nonterminal-applies,
+  occurs-there,
+  cell-there,
 }
 use Rattle.plans.specs.Sequences.{actionAt}
 use Rattle.runs.specs.Sound.{Before, ofTerminal, ofFirstVisit, Available, always, made}
@@ -52,8 +99,9 @@ module _ {g p t : List ℕ} {l : ℕ} (given : Given g p t l) (values : List ℤ
   passed k m j o h e =
       let w = earlier given values k m j h in
       record {
-          moment = w .0; earlier = w .1;
-          aboutTo = record { node = m; occurs = o; computing = top-computing given values (w .0) m j o (w .2) e; isCell = refl }
+        moment = w .0;
+        earlier = w .1;
+        aboutTo = record { node = m; occurs = o; computing = top-computing given values (w .0) m j o (w .2) e; isCell = refl };
       }
 
   -- an action numbered as an occurrence computes it
@@ -96,24 +144,30 @@ module _ {g p t : List ℕ} {l : ℕ} (given : Given g p t l) (values : List ℤ
       where
         of : OfVisit g p (ruleOf t n) 0 v x
         of = inherited-of g p (ruleOf t n) 0 v x s .0
+
         inh : T (inheritedAt g (ruleOf t n) x)
         inh = inherited-of g p (ruleOf t n) 0 v x s .1
+
         here : nodeAt t n (position x) ≡ n
         here = node-left t n (position x) (of .stands)
+
         attr : AttributeOf g t n (attribute x)
         attr =
             subst (λ (m : ℕ). AttributeOf g t m (attribute x)) here
             (occurrence-attribute (given .table) (given .tree) n x n-inside n-applies (of .occurs))
+
         class : inheritedAt g (ruleOf t n) x ≡ inherited g (symbolAtNode g t n) (attribute x)
         class =
             unfold inheritedAt in
             ap (λ (i : ℕ). inherited g (symbolOf g (ruleOf t n) i) (attribute x)) (of .stands)
             ∙ ap (λ (y : ℕ). inherited g y (attribute x)) (sym (rule-symbol g t n n-applies))
+
         root-none : n ≡ 0 → ⊥
         root-none e =
             none-inherited g (start g) (attribute x) (given .table .startMask)
             (subst (λ (y : ℕ). T (inherited g y (attribute x))) (ap (λ (m : ℕ). symbolAtNode g t m) e ∙ given .tree .rootStart)
             (subst (λ (c : Bool). T c) class inh))
+
         by-parent : Parent g t n → ComputedBefore g p t values k (cell t n x)
         by-parent q =
             let m : ℕ = q .parent in
@@ -126,19 +180,19 @@ module _ {g p t : List ℕ} {l : ℕ} (given : Given g p t l) (values : List ℤ
             let att : attribute o ≡ attribute x = omega arith in
             let mr : ruleOf t m < rules g = rule-known given m (c .inside) (c .applies) in
             let occ : T (occurrence g (ruleOf t m) o) =
-                    occurs-there (given .table) (given .tree) n (attribute x) n-applies attr m i (c .inside) (c .applies) (c .last) at in
+            occurs-there (given .table) (given .tree) n (attribute x) n-applies attr m i (c .inside) (c .applies) (c .last) at in
             let sym₀ : symbolOf g (ruleOf t m) (position o) ≡ symbolOf g (ruleOf t n) (position x) =
-                    ap (λ (j : ℕ). symbolOf g (ruleOf t m) j) pos
-                    ∙ (sym (given .tree .childSymbol m i n c)
-                    ∙ (rule-symbol g t n n-applies ∙ ap (λ (j : ℕ). symbolOf g (ruleOf t n) j) (sym (of .stands)))) in
+            ap (λ (j : ℕ). symbolOf g (ruleOf t m) j) pos
+            ∙ (sym (given .tree .childSymbol m i n c)
+            ∙ (rule-symbol g t n n-applies ∙ ap (λ (j : ℕ). symbolOf g (ruleOf t n) j) (sym (of .stands)))) in
             let cls : T (inheritedAt g (ruleOf t m) o) =
-                    subst⁻¹ (λ (z : Bool). T z) (same-class (ruleOf t m) o (ruleOf t n) x sym₀ att) inh in
+            subst⁻¹ (λ (z : Bool). T z) (same-class (ruleOf t m) o (ruleOf t n) x sym₀ att) inh in
             let down : T (inheritedOf g p (ruleOf t m) i v o) =
-                    of-inherited g p (ruleOf t m) i v o
-                    (record { occurs = occ; stands = pos; visitIs = same-visit (ruleOf t m) o (ruleOf t n) x sym₀ att ∙ of .visitIs }) cls in
+            of-inherited g p (ruleOf t m) i v o
+            (record { occurs = occ; stands = pos; visitIs = same-visit (ruleOf t m) o (ruleOf t n) x sym₀ att ∙ of .visitIs }) cls in
             let w = visit-done (given .table) (given .sound) (ruleOf t m) mr i (c .first) (c .last)
-                    (child-nonterminal given m i n c n-applies) (word (places k) m) v (b .inside m (c .inside) (c .applies)) one
-                    (omega (arith, b .child m i n c n-applies, top-once given n rest (b .path))) in
+            (child-nonterminal given m i n c n-applies) (word (places k) m) v (b .inside m (c .inside) (c .applies)) one
+            (omega (arith, b .child m i n c n-applies, top-once given n rest (b .path))) in
             subst (λ (z : ℕ). ComputedBefore g p t values k z)
             (cell-there (given .table) (given .tree) n (attribute x) n-applies attr m i (c .inside) (c .applies) (c .last) at
             ∙ (sym (ap (λ (z : ℕ). 8 * z + attribute x) here) ∙ sym (cell-is t n x)))
@@ -157,13 +211,13 @@ module _ {g p t : List ℕ} {l : ℕ} (given : Given g p t l) (values : List ℤ
         let w₀ : ChildOf g t n i c = child-of (given .table) (given .tree) n i n-inside n-applies one-i i-in in
         let c-in : c < nodes t = given .tree .childNode n i c w₀ in
         let c-app : T (appliesRule t c) =
-                nonterminal-applies (given .table) (given .tree) c c-in
-                (subst⁻¹ (λ (y : ℕ). T (nonterminal g y)) (given .tree .childSymbol n i c w₀) nt) in
+        nonterminal-applies (given .table) (given .tree) c c-in
+        (subst⁻¹ (λ (y : ℕ). T (nonterminal g y)) (given .tree .childSymbol n i c w₀) nt) in
         let cr : ruleOf t c < rules g = rule-known given c c-in c-app in
         let here : nodeAt t n (position x) ≡ c = ap (λ (j : ℕ). nodeAt t n j) (of .stands) ∙ node-child t n i one-i in
         let attr : AttributeOf g t c (attribute x) =
-                subst (λ (m : ℕ). AttributeOf g t m (attribute x)) here
-                (occurrence-attribute (given .table) (given .tree) n x n-inside n-applies (of .occurs)) in
+        subst (λ (m : ℕ). AttributeOf g t m (attribute x)) here
+        (occurrence-attribute (given .table) (given .tree) n x n-inside n-applies (of .occurs)) in
         let a8 : attribute x < 8 = attribute-eight (given .table) (given .tree) c (attribute x) attr in
         let o : ℕ = 8 * 0 + attribute x in
         let pos : position o ≡ 0 = omega arith in
@@ -171,18 +225,18 @@ module _ {g p t : List ℕ} {l : ℕ} (given : Given g p t l) (values : List ℤ
         let at : nodeAt t c 0 ≡ c = node-left t c 0 refl in
         let zero-in : 0 ≤ rightLength g (ruleOf t c) = omega arith in
         let occ : T (occurrence g (ruleOf t c) o) =
-                occurs-there (given .table) (given .tree) c (attribute x) c-app attr c 0 c-in c-app zero-in at in
+        occurs-there (given .table) (given .tree) c (attribute x) c-app attr c 0 c-in c-app zero-in at in
         let sym₀ : symbolOf g (ruleOf t c) (position o) ≡ symbolOf g (ruleOf t n) (position x) =
-                ap (λ (j : ℕ). symbolOf g (ruleOf t c) j) pos
-                ∙ (sym (rule-symbol g t c c-app)
-                ∙ (given .tree .childSymbol n i c w₀ ∙ ap (λ (j : ℕ). symbolOf g (ruleOf t n) j) (sym (of .stands)))) in
+        ap (λ (j : ℕ). symbolOf g (ruleOf t c) j) pos
+        ∙ (sym (rule-symbol g t c c-app)
+        ∙ (given .tree .childSymbol n i c w₀ ∙ ap (λ (j : ℕ). symbolOf g (ruleOf t n) j) (sym (of .stands)))) in
         let cls : T (not (inheritedAt g (ruleOf t c) o)) =
-                subst⁻¹ (λ (z : Bool). T (not z)) (same-class (ruleOf t c) o (ruleOf t n) x sym₀ att) syn in
+        subst⁻¹ (λ (z : Bool). T (not z)) (same-class (ruleOf t c) o (ruleOf t n) x sym₀ att) syn in
         let up : T (synthesizedOf g p (ruleOf t c) 0 v o) =
-                of-synthesized g p (ruleOf t c) 0 v o
-                (record { occurs = occ; stands = pos; visitIs = same-visit (ruleOf t c) o (ruleOf t n) x sym₀ att ∙ of .visitIs }) cls in
+        of-synthesized g p (ruleOf t c) 0 v o
+        (record { occurs = occ; stands = pos; visitIs = same-visit (ruleOf t c) o (ruleOf t n) x sym₀ att ∙ of .visitIs }) cls in
         let w = leave-done (given .table) (given .sound) (ruleOf t c) cr (word (places k) c) v (b .inside c c-in c-app) one
-                (omega (arith, b .child n i c w₀ c-app, above-top given n c rest (b .path) (given .tree .childHigher n i c w₀))) in
+        (omega (arith, b .child n i c w₀ c-app, above-top given n c rest (b .path) (given .tree .childHigher n i c w₀))) in
         subst (λ (z : ℕ). ComputedBefore g p t values k z)
         (cell-there (given .table) (given .tree) c (attribute x) c-app attr c 0 c-in c-app zero-in at
         ∙ (sym (ap (λ (z : ℕ). 8 * z + attribute x) here) ∙ sym (cell-is t n x)))
@@ -195,19 +249,21 @@ module _ {g p t : List ℕ} {l : ℕ} (given : Given g p t l) (values : List ℤ
         → T (not (appliesRule t (nodeAt t n (position x)))) ⊎ ComputedBefore g p t values k (cell t n x)
     available-computed x occ (always (ofTerminal s)) =
         inl (not-T (appliesRule t (nodeAt t n (position x))) (λ a.
-            let i : position x ≤ rightLength g (ruleOf t n) = occurs-inside g (ruleOf t n) x occ in
-            T-not (nonterminal g (symbolOf g (ruleOf t n) (position x))) s
-            (subst (λ (y : ℕ). T (nonterminal g y))
-            (node-at-symbol (given .table) (given .tree) n (position x) n-inside n-applies i)
-            (applies-nonterminal (given .table) (given .tree) (nodeAt t n (position x))
-            (node-at-inside (given .table) (given .tree) n (position x) n-inside n-applies i) a))))
+        let i : position x ≤ rightLength g (ruleOf t n) = occurs-inside g (ruleOf t n) x occ in
+        T-not (nonterminal g (symbolOf g (ruleOf t n) (position x))) s
+        (subst (λ (y : ℕ). T (nonterminal g y))
+        (node-at-symbol (given .table) (given .tree) n (position x) n-inside n-applies i)
+        (applies-nonterminal (given .table) (given .tree) (nodeAt t n (position x))
+        (node-at-inside (given .table) (given .tree) n (position x) n-inside n-applies i) a))))
     available-computed x occ (always (ofFirstVisit s)) = inr (handed-down 1 x (omega arith) (omega arith) s)
     available-computed x occ (made a before makes′) = inr (go (decoded a))
       where
         at-place : (d : Action) → decode a ≡ d → decode (actionAt p (ruleOf t n) (before .place)) ≡ d
         at-place d e = ap decode (before .actionIs) ∙ e
+
         makes-at : (d : Action) → decode a ≡ d → T (makes g p (ruleOf t n) d x)
         makes-at d e = subst (λ (z : Action). T (makes g p (ruleOf t n) z x)) e makes′
+
         go : Decoded a → ComputedBefore g p t values k (cell t n x)
         go (isCompute o h e d) =
             let same : o ≡ x = makes-compute g p (ruleOf t n) o x (makes-at (compute o) d) .1 in
@@ -217,7 +273,7 @@ module _ {g p t : List ℕ} {l : ℕ} (given : Given g p t l) (values : List ℤ
             let of : OfVisit g p (ruleOf t n) i v x = synthesized-of g p (ruleOf t n) i v x (m .1) .0 in
             let first : 1 ≤ i = some-child i v d in
             let i-in : i ≤ rightLength g (ruleOf t n) =
-                    subst (λ (j : ℕ). j ≤ rightLength g (ruleOf t n)) (of .stands) (occurs-inside g (ruleOf t n) x occ) in
+            subst (λ (j : ℕ). j ≤ rightLength g (ruleOf t n)) (of .stands) (occurs-inside g (ruleOf t n) x occ) in
             handed-up i v x first one
             (done-visit (given .table) (given .sound) (ruleOf t n) n-rule i first i-in (m .0) (word (places k) n) (before .place) v
             (b .inside n n-inside n-applies) (before .earlier) (at-place (visit i v) d)) (m .0) (m .1)
@@ -230,8 +286,11 @@ module _ {g p t : List ℕ} {l : ℕ} (given : Given g p t l) (values : List ℤ
                 (omega (arith, before .earlier, b .inside n n-inside n-applies)))) .child
         go (isLeave v one h e d) =
             handed-down (suc v) x (omega arith)
-            (omega (arith, done-leave (given .table) (given .sound) (ruleOf t n) n-rule (word (places k) n) (before .place) v
-            (b .inside n n-inside n-applies) (before .earlier) (at-place (leave v) d)))
+            (omega (
+              arith,
+              done-leave (given .table) (given .sound) (ruleOf t n) n-rule (word (places k) n) (before .place) v
+                  (b .inside n n-inside n-applies) (before .earlier) (at-place (leave v) d),
+            ))
             (makes-leave g p (ruleOf t n) v x (makes-at (leave v) d))
         go (isNone h d) = absurd (makes-none g p (ruleOf t n) x (makes-at none d))
 

@@ -25,10 +25,26 @@ use Rattle.runs.specs.Automaton.{started, act, actionOf, stepOn, step, a
 use Rattle.runs.specs.Counts.{leaveNumber, visitNumber, leavesDone, visitsDone}
 use Rattle.runs.specs.Balance.{Given, times, leavesAt, visitsAt, Balanced}
 use Rattle.runs.proofs.SequenceCounts.{
-    leaves-start, leaves-same, leaves-more, visits-start, visits-same, visits-more, visit-same, visit-other, leaves-left, visits-most
+  leaves-start,
+  leaves-same,
+  leaves-more,
+  visits-start,
+  visits-same,
+  visits-more,
+  visit-same,
+  visit-other,
+  leaves-left,
+  visits-most,
 }
 use Rattle.runs.proofs.Steps.{
-    all-zero, times-same, times-other, times-none, top-inside, top-applies, top-once, path-rest
+  all-zero,
+  times-same,
+  times-other,
+  times-none,
+  top-inside,
+  top-applies,
+  top-once,
+  path-rest,
 }
 
 module _ {g p t : List ℕ} {l : ℕ} (given : Given g p t l) where
@@ -53,8 +69,8 @@ module _ {g p t : List ℕ} {l : ℕ} (given : Given g p t l) where
     asked n h a =
         ⊎-elim
         (λ e.
-            subst⁻¹ (λ (k : ℕ). leavesAt p t places k + times k stack ≤ visits p (symbolOf g (ruleOf t k) 0)) e
-            (omega (arith, b .root, some-visit p (symbolOf g (ruleOf t 0) 0))))
+        subst⁻¹ (λ (k : ℕ). leavesAt p t places k + times k stack ≤ visits p (symbolOf g (ruleOf t k) 0)) e
+        (omega (arith, b .root, some-visit p (symbolOf g (ruleOf t 0) 0))))
         (λ d. of-child (given .tree .parentOf n (omega arith) h)) (same-or-not n 0)
       where
         of-child : Parent g t n → leavesAt p t places n + times n stack ≤ visits p (symbolOf g (ruleOf t n) 0)
@@ -63,10 +79,13 @@ module _ {g p t : List ℕ} {l : ℕ} (given : Given g p t l) where
             let i : ℕ = q .slot in
             let c : ChildOf g t m i n = q .isChild in
             let r : ℕ = ruleOf t m in
-            omega (arith, b .child m i n c a,
-            visits-most (given .table) (given .sound) r (rule-known m (c .inside) (c .applies)) i (c .first) (c .last)
-            (child-nonterminal m i n c a) (word places m) (b .inside m (c .inside) (c .applies)),
-            ap (λ (x : ℕ). visits p x) (child-left m i n c a))
+            omega (
+              arith,
+              b .child m i n c a,
+              visits-most (given .table) (given .sound) r (rule-known m (c .inside) (c .applies)) i (c .first) (c .last)
+                  (child-nonterminal m i n c a) (word places m) (b .inside m (c .inside) (c .applies)),
+              ap (λ (x : ℕ). visits p x) (child-left m i n c a),
+            )
 
   module _ (n : ℕ) (rest places : List ℕ) (b : Balanced g p t (n ∷ rest) places) where
     n-inside : n < nodes t
@@ -124,8 +143,8 @@ module _ {g p t : List ℕ} {l : ℕ} (given : Given g p t l) where
     leaves-stay z m =
         ⊎-elim
         (λ e.
-            subst⁻¹ (λ (k : ℕ). leavesAt p t moved k ≡ leavesAt p t places k) e
-            (ap (λ (k : ℕ). leavesDone p (ruleOf t n) k) moved-top ∙ leaves-same p (ruleOf t n) (word places n) z))
+        subst⁻¹ (λ (k : ℕ). leavesAt p t moved k ≡ leavesAt p t places k) e
+        (ap (λ (k : ℕ). leavesDone p (ruleOf t n) k) moved-top ∙ leaves-same p (ruleOf t n) (word places n) z))
         (λ d. leaves-other m d) (same-or-not m n)
 
     visits-stay : (m i : ℕ) → (m ≡ n → visitNumber i now ≡ 0) → visitsAt p t moved m i ≡ visitsAt p t places m i
@@ -133,41 +152,45 @@ module _ {g p t : List ℕ} {l : ℕ} (given : Given g p t l) where
     visits-stay m i z =
         ⊎-elim
         (λ e.
-            subst⁻¹ (λ (k : ℕ). visitsAt p t moved k i ≡ visitsAt p t places k i) e
-            (ap (λ (k : ℕ). visitsDone p (ruleOf t n) i k) moved-top ∙ visits-same p (ruleOf t n) i (word places n) (z e)))
+        subst⁻¹ (λ (k : ℕ). visitsAt p t moved k i ≡ visitsAt p t places k i) e
+        (ap (λ (k : ℕ). visitsDone p (ruleOf t n) i k) moved-top ∙ visits-same p (ruleOf t n) i (word places n) (z e)))
         (λ d. ap (λ (k : ℕ). visitsDone p (ruleOf t m) i k) (moved-other m d)) (same-or-not m n)
 
     compute-balanced : (o : ℕ) → now ≡ compute o → Balanced g p t (n ∷ rest) moved
     compute-balanced o e =
         let no : (m : ℕ) → leavesAt p t moved m ≡ leavesAt p t places m = leaves-stay (ap leaveNumber e) in
         record {
-            placesLength = moved-length;
-            path = b .path;
-            inside = moved-inside;
-            root = omega (arith, no 0, b .root);
-            child = λ m i c w a.
-                omega (arith, no c, b .child m i c w a, visits-stay m i (λ q. ap (λ (x : Action). visitNumber i x) e))
+          placesLength = moved-length;
+          path = b .path;
+          inside = moved-inside;
+          root = omega (arith, no 0, b .root);
+          child = λ m i c w a.
+              omega (arith, no c, b .child m i c w a, visits-stay m i (λ q. ap (λ (x : Action). visitNumber i x) e));
         }
 
     leave-balanced : (k : ℕ) → 1 ≤ k → now ≡ leave k → Balanced g p t rest moved
     unfolding now
     leave-balanced k one e =
         record {
-            placesLength = moved-length;
-            path = path-rest given n rest (b .path);
-            inside = moved-inside;
-            root = omega (arith, b .root, gone 0);
-            child = λ m i c w a.
-                omega (arith, gone c, b .child m i c w a, visits-stay m i (λ q. ap (λ (x : Action). visitNumber i x) e))
+          placesLength = moved-length;
+          path = path-rest given n rest (b .path);
+          inside = moved-inside;
+          root = omega (arith, b .root, gone 0);
+          child = λ m i c w a.
+              omega (arith, gone c, b .child m i c w a, visits-stay m i (λ q. ap (λ (x : Action). visitNumber i x) e));
         }
       where
         gone : (m : ℕ) → leavesAt p t moved m + times m rest ≡ leavesAt p t places m + times m (n ∷ rest)
         gone m =
             ⊎-elim
             (λ q.
-                subst⁻¹ (λ (x : ℕ). leavesAt p t moved x + times x rest ≡ leavesAt p t places x + times x (n ∷ rest)) q
-                (omega (arith, times-same n rest, ap (λ (x : ℕ). leavesDone p (ruleOf t n) x) moved-top,
-                leaves-more p (ruleOf t n) (word places n) (omega (arith, ap leaveNumber e)))))
+            subst⁻¹ (λ (x : ℕ). leavesAt p t moved x + times x rest ≡ leavesAt p t places x + times x (n ∷ rest)) q
+            (omega (
+              arith,
+              times-same n rest,
+              ap (λ (x : ℕ). leavesDone p (ruleOf t n) x) moved-top,
+              leaves-more p (ruleOf t n) (word places n) (omega (arith, ap leaveNumber e)),
+            )))
             (λ d. omega (arith, leaves-other m d, times-other m n rest d)) (same-or-not m n)
 
     visit-balanced : (j k c₀ : ℕ) → 1 ≤ k → now ≡ visit j k → ChildOf g t n j c₀ → T (appliesRule t c₀)
@@ -176,14 +199,18 @@ module _ {g p t : List ℕ} {l : ℕ} (given : Given g p t l) where
     visit-balanced j k c₀ one e w₀ a₀ =
         let no : (m : ℕ) → leavesAt p t moved m ≡ leavesAt p t places m = leaves-stay (ap leaveNumber e) in
         record {
-            placesLength = moved-length;
-            path = (record { slot = j; isChild = w₀; applies = a₀ }, b .path);
-            inside = moved-inside;
-            root =
-                omega (arith, no 0, b .root,
-                times-other 0 c₀ (n ∷ rest) (λ q. omega (arith, given .tree .childHigher n j c₀ w₀)));
-            child = λ m i c w a.
-                ⊎-elim (λ q. pushed m i c w a q (no c)) (λ d. other m i c w a d (no c)) (same-or-not c c₀)
+          placesLength = moved-length;
+          path = (record { slot = j; isChild = w₀; applies = a₀ }, b .path);
+          inside = moved-inside;
+          root =
+              omega (
+                arith,
+                no 0,
+                b .root,
+                times-other 0 c₀ (n ∷ rest) (λ q. omega (arith, given .tree .childHigher n j c₀ w₀)),
+              );
+          child = λ m i c w a.
+              ⊎-elim (λ q. pushed m i c w a q (no c)) (λ d. other m i c w a d (no c)) (same-or-not c c₀);
         }
       where
         pushed : (m i c : ℕ) → ChildOf g t m i c → T (appliesRule t c) → c ≡ c₀ → leavesAt p t moved c ≡ leavesAt p t places c
@@ -193,20 +220,34 @@ module _ {g p t : List ℕ} {l : ℕ} (given : Given g p t l) where
             let mn : m ≡ n = given .tree .sameParent m i n j c₀ w₁ w₀ in
             let ij : i ≡ j = given .tree .sameSlot m i n j c₀ w₁ w₀ in
             let up : visitsAt p t moved n j ≡ suc (visitsAt p t places n j) =
-                    ap (λ (x : ℕ). visitsDone p (ruleOf t n) j x) moved-top
-                    ∙ visits-more p (ruleOf t n) j (word places n)
-                    (omega (arith, ap (λ (x : Action). visitNumber j x) e, visit-same j k)) in
-            omega (arith, b .child m i c w a, ap (λ (x : ℕ). times x (c₀ ∷ n ∷ rest)) q, times-same c₀ (n ∷ rest),
-            ap (λ (x : ℕ). times x (n ∷ rest)) q, up, ap (λ (x : ℕ). visitsAt p t moved x i) mn, ap (λ (x : ℕ). visitsAt p t moved n x) ij,
-            ap (λ (x : ℕ). visitsAt p t places x i) mn, ap (λ (x : ℕ). visitsAt p t places n x) ij)
+            ap (λ (x : ℕ). visitsDone p (ruleOf t n) j x) moved-top
+            ∙ visits-more p (ruleOf t n) j (word places n)
+            (omega (arith, ap (λ (x : Action). visitNumber j x) e, visit-same j k)) in
+            omega (
+              arith,
+              b .child m i c w a,
+              ap (λ (x : ℕ). times x (c₀ ∷ n ∷ rest)) q,
+              times-same c₀ (n ∷ rest),
+              ap (λ (x : ℕ). times x (n ∷ rest)) q,
+              up,
+              ap (λ (x : ℕ). visitsAt p t moved x i) mn,
+              ap (λ (x : ℕ). visitsAt p t moved n x) ij,
+              ap (λ (x : ℕ). visitsAt p t places x i) mn,
+              ap (λ (x : ℕ). visitsAt p t places n x) ij,
+            )
+
         other : (m i c : ℕ) → ChildOf g t m i c → T (appliesRule t c) → (c ≡ c₀ → ⊥) → leavesAt p t moved c ≡ leavesAt p t places c
             → leavesAt p t moved c + times c (c₀ ∷ n ∷ rest) ≡ visitsAt p t moved m i
         other m i c w a d same =
-            omega (arith, b .child m i c w a, times-other c c₀ (n ∷ rest) d,
-            visits-stay m i (λ q.
-                ap (λ (x : Action). visitNumber i x) e
-                ∙ visit-other i j k (λ f.
-                    d (sym (w .names) ∙ (ap (λ (x : ℕ). child t x i) q ∙ (ap (λ (x : ℕ). child t n x) (sym f) ∙ w₀ .names))))))
+            omega (
+              arith,
+              b .child m i c w a,
+              times-other c c₀ (n ∷ rest) d,
+              visits-stay m i (λ q.
+                  ap (λ (x : Action). visitNumber i x) e
+                  ∙ visit-other i j k (λ f.
+                  d (sym (w .names) ∙ (ap (λ (x : ℕ). child t x i) q ∙ (ap (λ (x : ℕ). child t n x) (sym f) ∙ w₀ .names))))),
+            )
 
   -- every step keeps the balance
   pub step-balanced : (stack places : List ℕ) (values : List ℤ) → Balanced g p t stack places
@@ -219,19 +260,19 @@ module _ {g p t : List ℕ} {l : ℕ} (given : Given g p t l) where
           → Balanced g p t (stepOn g p t (n ∷ rest) places values .stack) (stepOn g p t (n ∷ rest) places values .places)
       go (computes o h e d w) =
           subst⁻¹ (λ (a : Action). Balanced g p t (act g t a n rest (set places n (suc (word places n))) values .stack)
-              (act g t a n rest (set places n (suc (word places n))) values .places)) d
+          (act g t a n rest (set places n (suc (word places n))) values .places)) d
           (compute-balanced n rest places b o d)
       go (visitsChild i k h e′ e d w) =
           let c : ChildOf g t n i (child t n i) =
-                  child-of (given .table) (given .tree) n i (n-inside n rest places b) (n-applies n rest places b) (w .child) (w .inside) in
+          child-of (given .table) (given .tree) n i (n-inside n rest places b) (n-applies n rest places b) (w .child) (w .inside) in
           subst⁻¹ (λ (a : Action). Balanced g p t (act g t a n rest (set places n (suc (word places n))) values .stack)
-              (act g t a n rest (set places n (suc (word places n))) values .places)) d
+          (act g t a n rest (set places n (suc (word places n))) values .places)) d
           (visit-balanced n rest places b i k (child t n i) (w .first) d c
           (nonterminal-applies (given .table) (given .tree) (child t n i) (given .tree .childNode n i (child t n i) c)
           (subst⁻¹ (λ (x : ℕ). T (nonterminal g x)) (given .tree .childSymbol n i (child t n i) c) (w .nonterminalThere))))
       go (leaves k h e d w) =
           subst⁻¹ (λ (a : Action). Balanced g p t (act g t a n rest (set places n (suc (word places n))) values .stack)
-              (act g t a n rest (set places n (suc (word places n))) values .places)) d
+          (act g t a n rest (set places n (suc (word places n))) values .places)) d
           (leave-balanced n rest places b k (w .first) d)
 
   -- it holds at the start
@@ -239,16 +280,17 @@ module _ {g p t : List ℕ} {l : ℕ} (given : Given g p t l) where
   unfolding started
   started-balanced values =
       record {
-          placesLength = simp length-replicate;
-          path = refl;
-          inside = λ n h a. omega (arith, all-zero (nodes t) n);
-          root = omega (arith, no-leaves 0, times-same 0 [], times-none 0);
-          child = λ n i c w a.
-              omega (arith, no-leaves c, times-other c 0 [] (λ e. omega (arith, given .tree .childHigher n i c w)), times-none c, no-visits n i)
+        placesLength = simp length-replicate;
+        path = refl;
+        inside = λ n h a. omega (arith, all-zero (nodes t) n);
+        root = omega (arith, no-leaves 0, times-same 0 [], times-none 0);
+        child = λ n i c w a.
+            omega (arith, no-leaves c, times-other c 0 [] (λ e. omega (arith, given .tree .childHigher n i c w)), times-none c, no-visits n i);
       }
     where
       no-leaves : (n : ℕ) → leavesAt p t (replicate (nodes t) 0) n ≡ 0
       no-leaves n = ap (λ (k : ℕ). leavesDone p (ruleOf t n) k) (all-zero (nodes t) n) ∙ leaves-start p (ruleOf t n)
+
       no-visits : (n i : ℕ) → visitsAt p t (replicate (nodes t) 0) n i ≡ 0
       no-visits n i = ap (λ (k : ℕ). visitsDone p (ruleOf t n) i k) (all-zero (nodes t) n) ∙ visits-start p (ruleOf t n) i
 

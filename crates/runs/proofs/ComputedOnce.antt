@@ -44,10 +44,11 @@ module _ {g p t : List ℕ} {l : ℕ} (given : Given g p t l) (values : List ℤ
   pub top-computing : (k n j o : ℕ) → OnTop g p t values k n j → decode (actionAt p (ruleOf t n) j) ≡ compute o → Computing g p t values k n o
   top-computing k n j o w e =
       record {
-          rest = w .rest; stackIs = w .stackIs;
-          actionIs =
-              action-of p t (machineAt g p t values k .places) n
-              ∙ (ap (λ (i : ℕ). decode (actionAt p (ruleOf t n) i)) (w .placeIs) ∙ e)
+        rest = w .rest;
+        stackIs = w .stackIs;
+        actionIs =
+            action-of p t (machineAt g p t values k .places) n
+            ∙ (ap (λ (i : ℕ). decode (actionAt p (ruleOf t n) i)) (w .placeIs) ∙ e);
       }
 
   -- only defining occurrences are computed
@@ -56,14 +57,17 @@ module _ {g p t : List ℕ} {l : ℕ} (given : Given g p t l) (values : List ℤ
     where
       b : Balanced g p t (n ∷ w .rest) (machineAt g p t values k .places)
       b = balanced-at k n (w .rest) (w .stackIs)
+
       now : decode (actionAt p (ruleOf t n) (word (machineAt g p t values k .places) n)) ≡ compute o
       now = computing-place k n o w
+
       go : ActionIs g p (ruleOf t n) (actionAt p (ruleOf t n) (word (machineAt g p t values k .places) n)) → DefinedAt g t n o
       go (computes q h e d s) =
           let same : q ≡ o = cc (d, now) in
           record {
-              inside = top-inside given n (w .rest) (b .path); applies = top-applies given n (w .rest) (b .path);
-              isDefining = subst (λ (x : ℕ). T (defining g (ruleOf t n) x)) same s
+            inside = top-inside given n (w .rest) (b .path);
+            applies = top-applies given n (w .rest) (b .path);
+            isDefining = subst (λ (x : ℕ). T (defining g (ruleOf t n) x)) same s;
           }
       go (visitsChild i m h h′ e d s) = absurd (let z : _≡_ {A = ℕ} 0 1 = cc (d, now) in omega arith)
       go (leaves m h e d s) = absurd (let z : _≡_ {A = ℕ} 0 1 = cc (d, now) in omega arith)
@@ -76,8 +80,8 @@ module _ {g p t : List ℕ} {l : ℕ} (given : Given g p t l) (values : List ℤ
   computing-once k i n o v w =
       let d : DefinedAt g t n o = computing-defined k n o v in
       let e : word (machineAt g p t values k .places) n ≡ word (machineAt g p t values i .places) n =
-              same-action (given .table) (given .sound) (ruleOf t n) (rule-known given n (d .inside) (d .applies)) _ _
-              (computing-inside k n o v) (computing-inside i n o w) (computing-place k n o v ∙ sym (computing-place i n o w)) in
+      same-action (given .table) (given .sound) (ruleOf t n) (rule-known given n (d .inside) (d .applies)) _ _
+      (computing-inside k n o v) (computing-inside i n o w) (computing-place k n o v ∙ sym (computing-place i n o w)) in
       one-moment given values k i n (word (machineAt g p t values i .places) n)
       (record { rest = v .rest; stackIs = v .stackIs; placeIs = e }) (computing-top i n o w)
 
@@ -85,8 +89,8 @@ module _ {g p t : List ℕ} {l : ℕ} (given : Given g p t l) (values : List ℤ
   pub computed-once : (k i c : ℕ) → AboutTo g p t values k c → AboutTo g p t values i c → k ≡ i
   computed-once k i c v w =
       let same : (v .node ≡ w .node) × (v .occurs ≡ w .occurs) =
-              one-definer (given .table) (given .tree) (v .node) (v .occurs) (w .node) (w .occurs)
-              (computing-defined k _ _ (v .computing)) (computing-defined i _ _ (w .computing)) (v .isCell ∙ sym (w .isCell)) in
+      one-definer (given .table) (given .tree) (v .node) (v .occurs) (w .node) (w .occurs)
+      (computing-defined k _ _ (v .computing)) (computing-defined i _ _ (w .computing)) (v .isCell ∙ sym (w .isCell)) in
       computing-once k i (w .node) (w .occurs)
       (subst (λ (x : ℕ). Computing g p t values k x (w .occurs)) (same .0)
       (subst (λ (x : ℕ). Computing g p t values k (v .node) x) (same .1) (v .computing))) (w .computing)
@@ -96,7 +100,7 @@ module _ {g p t : List ℕ} {l : ℕ} (given : Given g p t l) (values : List ℤ
   defined-computed n o d =
       let r : ruleOf t n < rules g = rule-known given n (d .inside) (d .applies) in
       let e : decode o ≡ compute o =
-              decode-compute o (occurrence-fits g (ruleOf t n) o (given .table .rule (ruleOf t n) r) (defined-occurs (given .table) (given .tree) n o d)) in
+      decode-compute o (occurrence-fits g (ruleOf t n) o (given .table .rule (ruleOf t n) r) (defined-occurs (given .table) (given .tree) n o d)) in
       let at = action-there (given .table) (given .sound) (ruleOf t n) r (compute o) e (compute-belongs g p (ruleOf t n) o (d .isDefining)) in
       let w = moment given values n (at .0) (d .inside) (d .applies) (at .1) in
       (w .0, w .1, top-computing (w .0) n (at .0) o (w .2) (at .2))
@@ -114,9 +118,13 @@ module _ {g p t : List ℕ} {l : ℕ} (given : Given g p t l) (values : List ℤ
   only-attributes k c v =
       let n : ℕ = v .node in
       let o : ℕ = v .occurs in
-      let d : DefinedAt g t n o = computing-defined k n o (v .computing) in
-      (nodeAt t n (position o), attribute o, sym (v .isCell) ∙ cell-is t n o, defined-applies (given .table) (given .tree) n o d,
-      occurrence-attribute (given .table) (given .tree) n o (d .inside) (d .applies) (defined-occurs (given .table) (given .tree) n o d))
+      let d : DefinedAt g t n o = computing-defined k n o (v .computing) in (
+        nodeAt t n (position o),
+        attribute o,
+        sym (v .isCell) ∙ cell-is t n o,
+        defined-applies (given .table) (given .tree) n o d,
+        occurrence-attribute (given .table) (given .tree) n o (d .inside) (d .applies) (defined-occurs (given .table) (given .tree) n o d),
+      )
 
   -- no action computes a terminal's cell
   pub no-terminal : (k n a : ℕ) → a < 8 → T (not (appliesRule t n)) → AboutTo g p t values k (8 * n + a) → ⊥

@@ -29,9 +29,12 @@ module _ {g p t : List ℕ} {l : ℕ} (given : Given g p t l) where
   unfolding visits lastSet
   start-once =
       let w : SymbolSound g p (start g) = given .sound .symbol (start g) (omega (arith, given .table .startFits, given .table .symbolsFit)) in
-      omega (arith, highest-least mostAttributes (λ a. setNumber p (start g) a) 1 (λ a h.
-          ⊎-elim (λ s. omega (arith, w .startSet refl a s)) (λ s. omega (arith, w .nothing a h (λ e. omega (arith, e .attributeIs))))
-          (below-or-not a (attributes g (start g)))))
+      omega (
+        arith,
+        highest-least mostAttributes (λ a. setNumber p (start g) a) 1 (λ a h.
+            ⊎-elim (λ s. omega (arith, w .startSet refl a s)) (λ s. omega (arith, w .nothing a h (λ e. omega (arith, e .attributeIs))))
+            (below-or-not a (attributes g (start g)))),
+      )
 
   module _ {places : List ℕ} (b : Balanced g p t [] places) where
     -- every node that applies a rule is at its end
@@ -42,10 +45,17 @@ module _ {g p t : List ℕ} {l : ℕ} (given : Given g p t l) where
             → word places n ≡ sequenceLength p (ruleOf t n)
         ends n h a e =
             leaves-end (given .table) (given .sound) (ruleOf t n) (rule-known given n h a) (word places n) (b .inside n h a) e
+
         root : T (appliesRule t 0) → leavesAt p t places 0 ≡ visits p (symbolOf g (ruleOf t 0) 0)
         root a =
-            omega (arith, b .root, times-none 0, start-once,
-            ap (λ (x : ℕ). visits p x) (sym (rule-symbol g t 0 a) ∙ given .tree .rootStart))
+            omega (
+              arith,
+              b .root,
+              times-none 0,
+              start-once,
+              ap (λ (x : ℕ). visits p x) (sym (rule-symbol g t 0 a) ∙ given .tree .rootStart),
+            )
+
         of-child : (n : ℕ) → T (appliesRule t n)
             → ((m : ℕ) → m < n → m < nodes t → T (appliesRule t m) → word places m ≡ sequenceLength p (ruleOf t m))
             → Parent g t n → leavesAt p t places n ≡ visits p (symbolOf g (ruleOf t n) 0)
@@ -54,17 +64,23 @@ module _ {g p t : List ℕ} {l : ℕ} (given : Given g p t l) where
             let i : ℕ = q .slot in
             let c : ChildOf g t m i n = q .isChild in
             let e : word places m ≡ sequenceLength p (ruleOf t m) =
-                    ih m (given .tree .childHigher m i n c) (c .inside) (c .applies) in
-            omega (arith, b .child m i n c a, times-none n, ap (λ (k : ℕ). visitsDone p (ruleOf t m) i k) e,
-            visits-all (given .table) (given .sound) (ruleOf t m) (rule-known given m (c .inside) (c .applies)) i (c .first) (c .last)
-            (child-nonterminal given m i n c a),
-            ap (λ (x : ℕ). visits p x) (child-left given m i n c a))
+            ih m (given .tree .childHigher m i n c) (c .inside) (c .applies) in
+            omega (
+              arith,
+              b .child m i n c a,
+              times-none n,
+              ap (λ (k : ℕ). visitsDone p (ruleOf t m) i k) e,
+              visits-all (given .table) (given .sound) (ruleOf t m) (rule-known given m (c .inside) (c .applies)) i (c .first) (c .last)
+                  (child-nonterminal given m i n c a),
+              ap (λ (x : ℕ). visits p x) (child-left given m i n c a),
+            )
+
         up : (bound n : ℕ) → n < bound → n < nodes t → T (appliesRule t n) → word places n ≡ sequenceLength p (ruleOf t n)
         up zero n s h a = absurd (omega arith)
         up (suc bound) n s h a =
             ends n h a
             (⊎-elim
             (λ e.
-                subst⁻¹ (λ (k : ℕ). leavesAt p t places k ≡ visits p (symbolOf g (ruleOf t k) 0)) e
-                (root (subst (λ (k : ℕ). T (appliesRule t k)) e a)))
+            subst⁻¹ (λ (k : ℕ). leavesAt p t places k ≡ visits p (symbolOf g (ruleOf t k) 0)) e
+            (root (subst (λ (k : ℕ). T (appliesRule t k)) e a)))
             (λ d. of-child n a (λ m q. up bound m (omega arith)) (given .tree .parentOf n (omega arith) h)) (same-or-not n 0))

@@ -37,7 +37,12 @@ use Rattle.runs.proofs.StepsCounted.{busy, empty-after, all-at-end}
 use Rattle.runs.proofs.TotalFits.{total-bound}
 use Rattle.runs.proofs.RunAnswers.{ran-done, ran-stopped}
 use Rattle.runs.proofs.ComputedOnce.{
-    balanced-at, defined-computed, attribute-computed, computed-once, only-attributes, no-terminal
+  balanced-at,
+  defined-computed,
+  attribute-computed,
+  computed-once,
+  only-attributes,
+  no-terminal,
 }
 use Rattle.runs.proofs.AfterArguments.{after-arguments}
 use Rattle.runs.proofs.ValuesWritten.{values-length, compute-writes}
@@ -65,11 +70,11 @@ module _ (g p t : List ℕ) (values : List ℤ) (good : readTable g ≡ Good) (s
   run-machine budget =
       ⊎-elim
       (λ h.
-          let e : budget ≡ min budget (total p t) = omega arith in
-          ap (λ (x : Ended). x .machine) (ran-stopped given values budget h) ∙ ap (λ (k : ℕ). after g p t k (started t values)) e)
+      let e : budget ≡ min budget (total p t) = omega arith in
+      ap (λ (x : Ended). x .machine) (ran-stopped given values budget h) ∙ ap (λ (k : ℕ). after g p t k (started t values)) e)
       (λ h.
-          let e : total p t ≡ min budget (total p t) = omega arith in
-          ap (λ (x : Ended). x .machine) (ran-done given values budget h) ∙ ap (λ (k : ℕ). after g p t k (started t values)) e)
+      let e : total p t ≡ min budget (total p t) = omega arith in
+      ap (λ (x : Ended). x .machine) (ran-done given values budget h) ∙ ap (λ (k : ℕ). after g p t k (started t values)) e)
       (below-or-not budget (total p t))
 
   -- the same of a table that is planned and a tree that is accepted: what is answered
@@ -146,7 +151,10 @@ module _ (g p t : List ℕ) (values : List ℤ) (good : readTable g ≡ Good) (s
   attribute-once n a h w =
       let v = attribute-computed given values n a h w in
       record {
-          moment = v .0; inside = v .1; aboutTo = v .2; noOther = λ k u. computed-once given values k (v .0) (8 * n + a) u (v .2)
+        moment = v .0;
+        inside = v .1;
+        aboutTo = v .2;
+        noOther = λ k u. computed-once given values k (v .0) (8 * n + a) u (v .2);
       }
 
   -- every defining occurrence of the rule at every node is computed exactly once

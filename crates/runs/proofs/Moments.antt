@@ -49,7 +49,7 @@ module _ {g p t : List ℕ} {l : ℕ} (given : Given g p t l) (values : List ℤ
   top-places k n rest e =
       let b : Balanced g p t (machineAt g p t values k .stack) (machineAt g p t values k .places) = after-balanced given values k in
       let i : n < nodes t = top-inside given n rest
-              (subst (λ (s : List ℕ). Balanced g p t s (machineAt g p t values k .places)) e b .path) in
+      (subst (λ (s : List ℕ). Balanced g p t s (machineAt g p t values k .places)) e b .path) in
       omega (arith, b .placesLength)
 
   moves : (k m : ℕ) → Moved k m
@@ -61,14 +61,14 @@ module _ {g p t : List ℕ} {l : ℕ} (given : Given g p t l) (values : List ℤ
       go (n ∷ rest) e =
           ⊎-elim
           (λ i.
-              onTop (record { rest = rest; stackIs = e ∙ ap (λ (x : ℕ). x ∷ rest) (sym i); placeIs = refl })
-              (ap (λ (q : List ℕ). word q m) (places-after k n rest e)
-              ∙ (ap (λ (x : ℕ). word (set (machineAt g p t values k .places) n (suc (placeAt k n))) x) i
-              ∙ (getD-set-same (machineAt g p t values k .places) n (suc (placeAt k n)) 0 (top-places k n rest e)
-              ∙ ap (λ (x : ℕ). suc (placeAt k x)) (sym i)))))
+          onTop (record { rest = rest; stackIs = e ∙ ap (λ (x : ℕ). x ∷ rest) (sym i); placeIs = refl })
+          (ap (λ (q : List ℕ). word q m) (places-after k n rest e)
+          ∙ (ap (λ (x : ℕ). word (set (machineAt g p t values k .places) n (suc (placeAt k n))) x) i
+          ∙ (getD-set-same (machineAt g p t values k .places) n (suc (placeAt k n)) 0 (top-places k n rest e)
+          ∙ ap (λ (x : ℕ). suc (placeAt k x)) (sym i)))))
           (λ d.
-              stays (ap (λ (q : List ℕ). word q m) (places-after k n rest e)
-              ∙ getD-set-other (machineAt g p t values k .places) n m (suc (placeAt k n)) 0 d))
+          stays (ap (λ (q : List ℕ). word q m) (places-after k n rest e)
+          ∙ getD-set-other (machineAt g p t values k .places) n m (suc (placeAt k n)) 0 d))
           (same-or-not m n)
 
   -- the node on top goes on by one place
@@ -136,8 +136,8 @@ module _ {g p t : List ℕ} {l : ℕ} (given : Given g p t l) (values : List ℤ
   before-total k n rest e =
       ⊎-elim (λ s. s)
       (λ s.
-          let d : total p t + (k - total p t) ≡ k = omega arith in
-          absurd (let z : _≡_ {A = ℕ} 0 1 =
-                          cc (ap (λ (i : ℕ). machineAt g p t values i .stack) d, idle-after (k - total p t)) in
-                  omega arith))
+      let d : total p t + (k - total p t) ≡ k = omega arith in
+      absurd (let z : _≡_ {A = ℕ} 0 1 =
+      cc (ap (λ (i : ℕ). machineAt g p t values i .stack) d, idle-after (k - total p t)) in
+      omega arith))
       (below-or-not k (total p t))

@@ -62,17 +62,17 @@ module _ {g p t : List ℕ} (values : List ℤ) (given : Given g p t (length val
             let fl : f < functions g (ruleOf t n) = q .1 in
             let fo : target g (ruleOf t n) f ≡ o = q .2 in
             let arg : (j : ℕ) → j < arguments g (ruleOf t n) f
-                        → valueAt w (cell t n (argument g (ruleOf t n) f j)) ≡ valueAt final (cell t n (argument g (ruleOf t n) f j)) =
-                    λ j s.
-                        let x : ℕ = argument g (ruleOf t n) f j in
-                        ⊎-elim
-                        (λ term.
-                            subst⁻¹ (λ (y : ℕ). valueAt w y ≡ valueAt final y) (cell-is t n x)
-                            (at-terminal (nodeAt t n (position x)) (attribute x) term
-                            (occurrence-attribute (given .table) (given .tree) n x (d .inside) (d .applies)
-                            (given .table .function (ruleOf t n) f r fl .argumentOccurs j s))))
-                        (λ before. ih (before .moment) (cell t n x) (before .earlier) (before .aboutTo))
-                        (after-arguments given values k n o f j u fl fo s) in
+            → valueAt w (cell t n (argument g (ruleOf t n) f j)) ≡ valueAt final (cell t n (argument g (ruleOf t n) f j)) =
+            λ j s.
+            let x : ℕ = argument g (ruleOf t n) f j in
+            ⊎-elim
+            (λ term.
+            subst⁻¹ (λ (y : ℕ). valueAt w y ≡ valueAt final y) (cell-is t n x)
+            (at-terminal (nodeAt t n (position x)) (attribute x) term
+            (occurrence-attribute (given .table) (given .tree) n x (d .inside) (d .applies)
+            (given .table .function (ruleOf t n) f r fl .argumentOccurs j s))))
+            (λ before. ih (before .moment) (cell t n x) (before .earlier) (before .aboutTo))
+            (after-arguments given values k n o f j u fl fo s) in
             let there : cell t n (target g (ruleOf t n) f) ≡ c = ap (λ (y : ℕ). cell t n y) fo ∙ e in
             subst (λ (y : ℕ). valueAt w y ≡ valueAt final y) there
             (solution n f (d .inside) (d .applies) fl

@@ -23,8 +23,8 @@ module _ {g p t : List ℕ} (values : List ℤ) (given : Given g p t (length val
       → valueAt (machineAt g p t values k .values) c ≡ valueAt values c
   others-stay c k none =
       never-computed values given c k (λ j v.
-          let w = only-attributes given values j c v in
-          none (w .0) (w .1) (w .2) (w .3) (w .4))
+      let w = only-attributes given values j c v in
+      none (w .0) (w .1) (w .2) (w .3) (w .4))
 
   -- words beyond the nodes' values stay
   pub beyond-stays : (c k : ℕ) → valueWords t ≤ c → valueAt (machineAt g p t values k .values) c ≡ valueAt values c
@@ -36,6 +36,6 @@ module _ {g p t : List ℕ} (values : List ℤ) (given : Given g p t (length val
       → valueAt (machineAt g p t values k .values) (8 * n + a) ≡ valueAt values (8 * n + a)
   nothing-stays n a k h l =
       others-stay (8 * n + a) k (λ m b e s w.
-          let b8 : b < 8 = attribute-eight (given .table) (given .tree) m b w in
-          let mn : m ≡ n = omega arith in
-          omega (arith, w .exists, ap (λ (x : ℕ). attributes g (symbolAtNode g t x)) mn))
+      let b8 : b < 8 = attribute-eight (given .table) (given .tree) m b w in
+      let mn : m ≡ n = omega arith in
+      omega (arith, w .exists, ap (λ (x : ℕ). attributes g (symbolAtNode g t x)) mn))

@@ -33,7 +33,15 @@ use Rattle.sequences.specs.Order.{sequenceOf}
 use Rattle.sequences.proofs.Heights.{Orderly}
 use Rattle.sequences.specs.Paper.{Earlier}
 use Rattle.sequences.proofs.SequenceLaws.{
-    nothing-else, each-once, every-action, handed-down, handed-up, visits-rise, leaves-rise, ended-by-last-leave, arguments-first
+  nothing-else,
+  each-once,
+  every-action,
+  handed-down,
+  handed-up,
+  visits-rise,
+  leaves-rise,
+  ended-by-last-leave,
+  arguments-first,
 }
 use Rattle.sequences.proofs.PlannedSequences.{planned-short, orderly}
 use Rattle.plans.specs.Buffers.{over}
@@ -97,39 +105,40 @@ module _ (g : List ℕ) (good : readTable g ≡ Good) (lent : List ℕ) where
       rule-sound : RuleSound g p r
       rule-sound =
           record {
-              fits = omega (arith, stands r h .lengthIs, planned-short g r);
-              every = λ a t.
-                  subst⁻¹ (λ (n : ℕ). Before p r n a) (stands r h .lengthIs)
-                  (earlier-before r h (length (sequenceOf g (idsOf g) s r)) a (omega arith)
-                  (every-action g (idsOf g) s r o a (action-forth g p s w same r h a t)));
-              nothingElse = λ j l.
-                  subst⁻¹ (λ (a : ℕ). T (isAction g p r a)) (stands r h .actionIs j (inside j l))
-                  (action-forth g s p w back r h _ (nothing-else g (idsOf g) s r j (inside j l)));
-              once = λ j k l m e.
-                  each-once g (idsOf g) s r j k (inside j l) (inside k m)
-                  (sym (stands r h .actionIs j (inside j l)) ∙ (e ∙ stands r h .actionIs k (inside k m)));
-              visitsRise = λ j k i m n l q d e less.
-                  visits-rise g (idsOf g) s r o five i m n j k (inside j l) (inside k q) (decoded j (visit i m) (inside j l) d)
-                  (decoded k (visit i n) (inside k q) e) less;
-              leavesRise = λ j k m n l q d e less.
-                  leaves-rise g (idsOf g) s r o five m n j k (inside j l) (inside k q) (decoded j (leave m) (inside j l) d)
-                  (decoded k (leave n) (inside k q) e) less;
-              ended = last;
-              argumentsFirst = λ j q k i l d f e m. available j (argument g r k i) (inside j l)
-                  (arguments-first g (idsOf g) s r o five j q k i (inside j l) (decoded j (compute q) (inside j l) d) f e m);
-              handedDown = λ j i n q l d t.
-                  earlier-before r h j q (lt-le (inside j l))
-                  (handed-down g (idsOf g) s r o j i n q (inside j l) (decoded j (visit i n) (inside j l) d)
-                  (inherited-forth g p s w same r h i n q t));
-              handedUp = λ j n q l d t.
-                  earlier-before r h j q (lt-le (inside j l))
-                  (handed-up g (idsOf g) s r o j n q (inside j l) (decoded j (leave n) (inside j l) d)
-                  (synthesized-forth g p s w same r h 0 n q t));
-              zeros = λ j l m. stands r h .zeros j (subst (λ (n : ℕ). n ≤ j) (stands r h .lengthIs) l) m
+            fits = omega (arith, stands r h .lengthIs, planned-short g r);
+            every = λ a t.
+                subst⁻¹ (λ (n : ℕ). Before p r n a) (stands r h .lengthIs)
+                (earlier-before r h (length (sequenceOf g (idsOf g) s r)) a (omega arith)
+                (every-action g (idsOf g) s r o a (action-forth g p s w same r h a t)));
+            nothingElse = λ j l.
+                subst⁻¹ (λ (a : ℕ). T (isAction g p r a)) (stands r h .actionIs j (inside j l))
+                (action-forth g s p w back r h _ (nothing-else g (idsOf g) s r j (inside j l)));
+            once = λ j k l m e.
+                each-once g (idsOf g) s r j k (inside j l) (inside k m)
+                (sym (stands r h .actionIs j (inside j l)) ∙ (e ∙ stands r h .actionIs k (inside k m)));
+            visitsRise = λ j k i m n l q d e less.
+                visits-rise g (idsOf g) s r o five i m n j k (inside j l) (inside k q) (decoded j (visit i m) (inside j l) d)
+                (decoded k (visit i n) (inside k q) e) less;
+            leavesRise = λ j k m n l q d e less.
+                leaves-rise g (idsOf g) s r o five m n j k (inside j l) (inside k q) (decoded j (leave m) (inside j l) d)
+                (decoded k (leave n) (inside k q) e) less;
+            ended = last;
+            argumentsFirst = λ j q k i l d f e m. available j (argument g r k i) (inside j l)
+                (arguments-first g (idsOf g) s r o five j q k i (inside j l) (decoded j (compute q) (inside j l) d) f e m);
+            handedDown = λ j i n q l d t.
+                earlier-before r h j q (lt-le (inside j l))
+                (handed-down g (idsOf g) s r o j i n q (inside j l) (decoded j (visit i n) (inside j l) d)
+                (inherited-forth g p s w same r h i n q t));
+            handedUp = λ j n q l d t.
+                earlier-before r h j q (lt-le (inside j l))
+                (handed-up g (idsOf g) s r o j n q (inside j l) (decoded j (leave n) (inside j l) d)
+                (synthesized-forth g p s w same r h 0 n q t));
+            zeros = λ j l m. stands r h .zeros j (subst (λ (n : ℕ). n ≤ j) (stands r h .lengthIs) l) m;
           }
         where
           lt-le : {j n : ℕ} → j < n → j ≤ n
           lt-le l = omega arith
+
           last : decode (actionAt p r (sequenceLength p r - 1)) ≡ leave (visits p (symbolOf g r 0))
           last =
               let some : 1 ≤ length (sequenceOf g (idsOf g) s r) = some-action in
@@ -139,9 +148,10 @@ module _ (g : List ℕ) (good : readTable g ≡ Good) (lent : List ℕ) where
             where
               some-action : 1 ≤ length (sequenceOf g (idsOf g) s r)
               some-action = let e = every-action g (idsOf g) s r o 128 (first-leave g s r) in omega (arith, e .earlier)
+
           available : (j a : ℕ) → j < length (sequenceOf g (idsOf g) s r)
               → T (not (nonterminal g (symbolOf g r (position a)))) ⊎ (T (inheritedOf g s r 0 1 a)
-                  ⊎ ((e : ℕ) × Earlier (sequenceOf g (idsOf g) s r) j e × T (makes g s r (decode e) a)))
+              ⊎ ((e : ℕ) × Earlier (sequenceOf g (idsOf g) s r) j e × T (makes g s r (decode e) a)))
               → Available g p r j a
           available j a l (inl t) = Available.always (FromStart.ofTerminal t)
           available j a l (inr (inl t)) = Available.always (FromStart.ofFirstVisit (inherited-forth g s p w back r h 0 1 a t))
@@ -156,9 +166,9 @@ module _ (g : List ℕ) (good : readTable g ≡ Good) (lent : List ℕ) where
         let equal : setNumber p x a ≡ setNumber s x a = same x a small la in
         let low : 1 ≤ setNumber s x a = set-placed g good none x hx (eqb→eq (kind g x) 0 (e .nonterminalIs)) a (e .attributeIs) in
         record {
-            low = omega (arith, equal, low);
-            high = omega (arith, equal, number-nine g (idsOf g) x a la);
-            class = subst⁻¹ (λ (k : ℕ). T (ofClass g x k a)) equal (number-of-class g (idsOf g) x a la low)
+          low = omega (arith, equal, low);
+          high = omega (arith, equal, number-nine g (idsOf g) x a la);
+          class = subst⁻¹ (λ (k : ℕ). T (ofClass g x k a)) equal (number-of-class g (idsOf g) x a la low);
         }
 
     nothing-there : (x a : ℕ) → x < mostSymbols → a < mostAttributes → (Exists g x a → ⊥) → setNumber p x a ≡ 0
@@ -166,8 +176,8 @@ module _ (g : List ℕ) (good : readTable g ≡ Good) (lent : List ℕ) where
         same x a hx ha
         ∙ ⊎-elim
         (λ l.
-            number-of-other g (idsOf g) x a
-            (λ c k. missing (record { counts = lt→ltb x (symbols g) c; nonterminalIs = eq-T (kind g x) 0 k; attributeIs = l })) ha)
+        number-of-other g (idsOf g) x a
+        (λ c k. missing (record { counts = lt→ltb x (symbols g) c; nonterminalIs = eq-T (kind g x) 0 k; attributeIs = l })) ha)
         (λ l. number-where-nothing g (idsOf g) x a l ha) (below-or-not a (attributes g x))
 
     -- the start's attributes are all synthesized and have no successors: they are in set 1
@@ -180,18 +190,18 @@ module _ (g : List ℕ) (good : readTable g ≡ Good) (lent : List ℕ) where
         ∙ (word-of-symbol g (idsOf g) (start g) a small la
         ∙ paper-sets g good none (start g) (w .startFits) (w .startNonterminal) .each 1 (omega arith) .largest (λ b. b < attributes g (start g))
         (record {
-            attributeOf = λ b m. m;
-            unplaced = λ b m e. absurd (let z : ⊥ = omega (arith, e .0, e .1) in z);
-            class = λ b m. odd-synthesized g (start g) 1 b (subst⁻¹ (λ (n : ℕ). T (not (hasb b n))) (w .startMask) (none-left b)) refl;
-            successors = λ b c m i. inr (ids-occurs g i .endFits)
+          attributeOf = λ b m. m;
+          unplaced = λ b m e. absurd (let z : ⊥ = omega (arith, e .0, e .1) in z);
+          class = λ b m. odd-synthesized g (start g) 1 b (subst⁻¹ (λ (n : ℕ). T (not (hasb b n))) (w .startMask) (none-left b)) refl;
+          successors = λ b c m i. inr (ids-occurs g i .endFits);
         }) a l)
 
     symbol-sound : (x : ℕ) → x < mostSymbols → SymbolSound g p x
     symbol-sound x h =
         record {
-            sets = set-fits x;
-            nothing = λ a l. nothing-there x a h l;
-            startSet = λ e a. subst⁻¹ (λ (y : ℕ). a < attributes g y → setNumber p y a ≡ 1) e (start-set a)
+          sets = set-fits x;
+          nothing = λ a l. nothing-there x a h l;
+          startSet = λ e a. subst⁻¹ (λ (y : ℕ). a < attributes g y → setNumber p y a ≡ 1) e (start-set a);
         }
 
     -- whatever the planner writes is sound

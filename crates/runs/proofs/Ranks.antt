@@ -43,10 +43,10 @@ module _ {l v : ℕ} {rank : ℕ → ℕ} (w : Ranks l v rank) where
       let ij : i < j = w .rise i j il h (omega arith) (omega arith) in
       count-gap (λ j. ltb 0 (rank j)) (suc i) j ij
       (λ k a b t.
-          let kl : k < l = omega arith in
-          let p : 1 ≤ rank k = has k t in
-          ⊎-elim (λ s. omega (arith, ordered k i kl il p (omega arith)))
-          (λ s. omega (arith, ordered j k h kl (omega arith) (omega arith))) (below-or-not (rank k) (suc (suc m))))
+      let kl : k < l = omega arith in
+      let p : 1 ≤ rank k = has k t in
+      ⊎-elim (λ s. omega (arith, ordered k i kl il p (omega arith)))
+      (λ s. omega (arith, ordered j k h kl (omega arith) (omega arith))) (below-or-not (rank k) (suc (suc m))))
       ∙ (count-yes (λ j. ltb 0 (rank j)) i (lt→ltb 0 (rank i) (omega arith)) ∙ ap suc (before-rank m i il ir))
 
   -- all v of them stand in the first l places
@@ -84,5 +84,9 @@ module _ {l v : ℕ} {rank : ℕ → ℕ} (w : Ranks l v rank) where
   -- a rank that is done the count has reached
   pub done-reached : (k m j : ℕ) → k ≤ l → j < k → rank j ≡ suc m → suc m ≤ ranked rank k
   done-reached k m j h a e =
-      omega (arith, count-yes (λ j. ltb 0 (rank j)) j (lt→ltb 0 (rank j) (omega arith)),
-      count-up (λ j. ltb 0 (rank j)) (suc j) k a, before-rank m j (omega arith) e)
+      omega (
+        arith,
+        count-yes (λ j. ltb 0 (rank j)) j (lt→ltb 0 (rank j) (omega arith)),
+        count-up (λ j. ltb 0 (rank j)) (suc j) k a,
+        before-rank m j (omega arith) e,
+      )

@@ -69,12 +69,12 @@ module _ {g p t : List ℕ} {l : ℕ} (given : Given g p t l) (values : List ℤ
   ends (suc budget) k h l =
       ⊎-elim
       (λ s.
-          let w = busy given values k s in
-          busy-turn g p t budget k (at k) (w .0) (w .1) (w .2) ∙ ends budget (suc k) s (omega arith))
+      let w = busy given values k s in
+      busy-turn g p t budget k (at k) (w .0) (w .1) (w .2) ∙ ends budget (suc k) s (omega arith))
       (λ s.
-          let i : k ≡ total p t = omega arith in
-          idle-turn g p t budget k (at k) (subst⁻¹ (λ (j : ℕ). at j .stack ≡ []) i (empty-after given values))
-          ∙ ap (λ (j : ℕ). done j (at j)) i)
+      let i : k ≡ total p t = omega arith in
+      idle-turn g p t budget k (at k) (subst⁻¹ (λ (j : ℕ). at j .stack ≡ []) i (empty-after given values))
+      ∙ ap (λ (j : ℕ). done j (at j)) i)
       (below-or-not k (total p t))
 
   -- with a budget of the total or more the run is done

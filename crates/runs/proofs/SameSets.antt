@@ -12,7 +12,18 @@ use Rattle.grammar.proofs.OccurrenceLaws.{occurs-inside}
 use Rattle.sets.specs.Visits.{setNumber, lastSet, visits, visitOfSet, visitOf}
 use Rattle.sets.proofs.Visits.{highest-same}
 use Rattle.sequences.specs.Actions.{
-    Action, compute, visit, leave, none, decode, belongs, isAction, visitAt, inheritedOf, synthesizedOf, makes
+  Action,
+  compute,
+  visit,
+  leave,
+  none,
+  decode,
+  belongs,
+  isAction,
+  visitAt,
+  inheritedOf,
+  synthesizedOf,
+  makes,
 }
 
 module _ (g p s : List ℕ) (w : WellFormed g) (same : (x a : ℕ) → x < 32 → a < 8 → setNumber p x a ≡ setNumber s x a) where

@@ -34,12 +34,13 @@ same-values {g} {p} {q} {t} values v w =
         → valueAt (machineAt g p t values (total p t) .values) c ≡ valueAt (machineAt g q t values (total q t) .values) c
     outside c none =
         let no : (n a : ℕ) → c ≡ 8 * n + a → T (appliesRule t n) → AttributeOf g t n a → ⊥ =
-                λ n a e s u.
-                    let a8 : a < 8 = attribute-eight (v .table) (v .tree) n a u in
-                    let n₀ : n ≡ c / 8 = omega arith in
-                    let a₀ : a ≡ c % 8 = omega arith in
-                    none (subst (λ (x : ℕ). AttributeOf g t x (c % 8)) n₀ (subst (λ (x : ℕ). AttributeOf g t n x) a₀ u)) in
+        λ n a e s u.
+        let a8 : a < 8 = attribute-eight (v .table) (v .tree) n a u in
+        let n₀ : n ≡ c / 8 = omega arith in
+        let a₀ : a ≡ c % 8 = omega arith in
+        none (subst (λ (x : ℕ). AttributeOf g t x (c % 8)) n₀ (subst (λ (x : ℕ). AttributeOf g t n x) a₀ u)) in
         others-stay values v c (total p t) no ∙ sym (others-stay values w c (total q t) no)
+
     inside : (c : ℕ) → AttributeOf g t (c / 8) (c % 8)
         → valueAt (machineAt g p t values (total p t) .values) c ≡ valueAt (machineAt g q t values (total q t) .values) c
     inside c u =
@@ -47,10 +48,11 @@ same-values {g} {p} {q} {t} values v w =
         subst (λ (x : ℕ). valueAt (machineAt g p t values (total p t) .values) x ≡ valueAt (machineAt g q t values (total q t) .values) x) e
         (only-solution values w (machineAt g p t values (total p t) .values) (solved values v) (terminals-stay values v (total p t))
         (c / 8) (c % 8) u)
+
     at : (c : ℕ) → valueAt (machineAt g p t values (total p t) .values) c ≡ valueAt (machineAt g q t values (total q t) .values) c
     at c =
         ⊎-elim
         (λ s.
-            ⊎-elim (λ r. inside c (record { inside = s; exists = r })) (λ r. outside c (λ u. omega (arith, u .exists)))
-            (below-or-not (c % 8) (attributes g (symbolAtNode g t (c / 8)))))
+        ⊎-elim (λ r. inside c (record { inside = s; exists = r })) (λ r. outside c (λ u. omega (arith, u .exists)))
+        (below-or-not (c % 8) (attributes g (symbolAtNode g t (c / 8)))))
         (λ s. outside c (λ u. omega (arith, u .inside))) (below-or-not (c / 8) (nodes t))

@@ -16,7 +16,14 @@ use Rattle.sets.specs.Visits.{setNumber, lastSet, visits}
 use Rattle.sets.proofs.Visits.{highest-least, some-visit}
 use Rattle.sequences.specs.Actions.{Action, compute, visit, leave, none, numberOf, decode, belongs, isAction}
 use Rattle.sequences.proofs.ActionLaws.{
-    decode-number, decode-injective, action-below, belongs-action, belongs-visit, belongs-leave, visit-belongs, leave-belongs
+  decode-number,
+  decode-injective,
+  action-below,
+  belongs-action,
+  belongs-visit,
+  belongs-leave,
+  visit-belongs,
+  leave-belongs,
 }
 use Rattle.plans.specs.Sequences.{sequenceLength, actionAt}
 use Rattle.runs.specs.Sound.{Before, RuleSound, Sound}
@@ -100,11 +107,11 @@ module _ {g p : List ℕ} (table : WellFormed g) (sound : Sound g p) where
   sets-ten x a h l =
       ⊎-elim
       (λ c.
-          ⊎-elim
-          (λ n.
-              ⊎-elim (λ e. sound .symbol x h .sets a (record { counts = c; nonterminalIs = n; attributeIs = e }) .high)
-              (λ e. omega (arith, sound .symbol x h .nothing a l (λ w. omega (arith, w .attributeIs)))) (below-or-not a (attributes g x)))
-          (λ n. omega (arith, sound .symbol x h .nothing a l (λ w. T-not (nonterminal g x) n (w .nonterminalIs)))) (tested (nonterminal g x)))
+      ⊎-elim
+      (λ n.
+      ⊎-elim (λ e. sound .symbol x h .sets a (record { counts = c; nonterminalIs = n; attributeIs = e }) .high)
+      (λ e. omega (arith, sound .symbol x h .nothing a l (λ w. omega (arith, w .attributeIs)))) (below-or-not a (attributes g x)))
+      (λ n. omega (arith, sound .symbol x h .nothing a l (λ w. T-not (nonterminal g x) n (w .nonterminalIs)))) (tested (nonterminal g x)))
       (λ c. omega (arith, sound .symbol x h .nothing a l (λ w. T-not (ltb x (symbols g)) c (w .counts)))) (tested (ltb x (symbols g)))
 
   -- a symbol has at most five visits
@@ -174,14 +181,14 @@ module _ {g p : List ℕ} (table : WellFormed g) (sound : Sound g p) where
     leave-ranks : Ranks (sequenceLength p r) (visits p (symbolOf g r 0)) (λ j. leaveNumber (decode (actionAt p r j)))
     leave-ranks =
         record {
-            there = λ m h l.
-                let w = action-there (leave m) (decode-number (leave m) (h, omega (arith, symbol-five 0 (omega arith))))
-                        (leave-belongs g p r m (record { first = h; last = l })) in
-                (w .0, w .1, ap leaveNumber (w .2));
-            range = λ j h. leave-range _ (belongs-at j h);
-            rise = λ j k h l a b. rule-sound .leavesRise j k _ _ h l (leave-number j a) (leave-number k (omega arith)) b;
-            once = λ j k h l a e.
-                same-action j k h l (leave-number j a ∙ (ap leave e ∙ sym (leave-number k (omega arith))))
+          there = λ m h l.
+              let w = action-there (leave m) (decode-number (leave m) (h, omega (arith, symbol-five 0 (omega arith))))
+              (leave-belongs g p r m (record { first = h; last = l })) in
+              (w .0, w .1, ap leaveNumber (w .2));
+          range = λ j h. leave-range _ (belongs-at j h);
+          rise = λ j k h l a b. rule-sound .leavesRise j k _ _ h l (leave-number j a) (leave-number k (omega arith)) b;
+          once = λ j k h l a e.
+              same-action j k h l (leave-number j a ∙ (ap leave e ∙ sym (leave-number k (omega arith))));
         }
 
     no-leave-yet : (k : ℕ) → k ≤ sequenceLength p r → leavesDone p r k ≤ visits p (symbolOf g r 0)
@@ -194,8 +201,8 @@ module _ {g p : List ℕ} (table : WellFormed g) (sound : Sound g p) where
     leaves-left k h l =
         ⊎-elim (λ s. s)
         (λ s.
-            let e : k ≡ sequenceLength p r = omega arith in
-            absurd (omega (arith, ap (λ (x : ℕ). ranked (λ j. leaveNumber (decode (actionAt p r j))) x) e, all-ranked leave-ranks)))
+        let e : k ≡ sequenceLength p r = omega arith in
+        absurd (omega (arith, ap (λ (x : ℕ). ranked (λ j. leaveNumber (decode (actionAt p r j))) x) e, all-ranked leave-ranks)))
         (below-or-not k (sequenceLength p r))
 
     -- a leave that the count has reached stands before the place
@@ -219,24 +226,24 @@ module _ {g p : List ℕ} (table : WellFormed g) (sound : Sound g p) where
         let j : ℕ = w .0 in
         let jk : j < k = w .1 in
         let last : j ≡ sequenceLength p r - 1 =
-                same-action j (sequenceLength p r - 1) (omega arith) (omega arith) (w .2 ∙ sym (rule-sound .ended)) in
+        same-action j (sequenceLength p r - 1) (omega arith) (omega arith) (w .2 ∙ sym (rule-sound .ended)) in
         omega arith
 
     module _ (i : ℕ) (first : 1 ≤ i) (inside : i ≤ rightLength g r) (there : T (nonterminal g (symbolOf g r i))) where
       visit-ranks : Ranks (sequenceLength p r) (visits p (symbolOf g r i)) (λ j. visitNumber i (decode (actionAt p r j)))
       visit-ranks =
           record {
-              there = λ m h l.
-                  let w = action-there (visit i m)
-                          (decode-number (visit i m) (omega (arith, table .rule r known .lengthFits), h, omega (arith, symbol-five i inside)))
-                          (visit-belongs g p r i m
-                          (record { child = first; inside = inside; nonterminalThere = there; first = h; last = l })) in
-                  (w .0, w .1, ap (λ (a : Action). visitNumber i a) (w .2) ∙ visit-same i m);
-              range = λ j h. visit-range i _ (belongs-at j h);
-              rise = λ j k h l a b. rule-sound .visitsRise j k i _ _ h l (visit-number i j a) (visit-number i k (omega arith)) b;
-              once = λ j k h l a e.
-                  same-action j k h l
-                  (visit-number i j a ∙ (ap (λ (n : ℕ). visit i n) e ∙ sym (visit-number i k (omega arith))))
+            there = λ m h l.
+                let w = action-there (visit i m)
+                (decode-number (visit i m) (omega (arith, table .rule r known .lengthFits), h, omega (arith, symbol-five i inside)))
+                (visit-belongs g p r i m
+                (record { child = first; inside = inside; nonterminalThere = there; first = h; last = l })) in
+                (w .0, w .1, ap (λ (a : Action). visitNumber i a) (w .2) ∙ visit-same i m);
+            range = λ j h. visit-range i _ (belongs-at j h);
+            rise = λ j k h l a b. rule-sound .visitsRise j k i _ _ h l (visit-number i j a) (visit-number i k (omega arith)) b;
+            once = λ j k h l a e.
+                same-action j k h l
+                (visit-number i j a ∙ (ap (λ (n : ℕ). visit i n) e ∙ sym (visit-number i k (omega arith))));
           }
 
       -- the child is visited as often as its symbol asks for

@@ -41,12 +41,12 @@ module _ {g p t : List ℕ} (values : List ℤ) (given : Given g p t (length val
   argument-settled k n f j h s w q =
       let c : ℕ = cell t n (argument g (ruleOf t n) f j) in
       sym (stays-between g p t values c k (total p t) (omega arith) (λ i a b v.
-          ⊎-elim
-          (λ term.
-              no-terminal given values i (nodeAt t n (position (argument g (ruleOf t n) f j))) (attribute (argument g (ruleOf t n) f j))
-              (omega arith) term (subst (λ (x : ℕ). AboutTo g p t values i x) (cell-is t n (argument g (ruleOf t n) f j)) v))
-          (λ before. omega (arith, before .earlier, computed-once given values i (before .moment) c v (before .aboutTo)))
-          (after-arguments given values k n (target g (ruleOf t n) f) f j w s refl q)))
+      ⊎-elim
+      (λ term.
+      no-terminal given values i (nodeAt t n (position (argument g (ruleOf t n) f j))) (attribute (argument g (ruleOf t n) f j))
+      (omega arith) term (subst (λ (x : ℕ). AboutTo g p t values i x) (cell-is t n (argument g (ruleOf t n) f j)) v))
+      (λ before. omega (arith, before .earlier, computed-once given values i (before .moment) c v (before .aboutTo)))
+      (after-arguments given values k n (target g (ruleOf t n) f) f j w s refl q)))
 
   -- the values at the end satisfy every equation
   pub solved : Solution g t (machineAt g p t values (total p t) .values)
@@ -55,7 +55,7 @@ module _ {g p t : List ℕ} (values : List ℤ) (given : Given g p t (length val
       let r : ruleOf t n < rules g = given .tree .ruleKnown n h a in
       let o : ℕ = target g (ruleOf t n) f in
       let d : DefinedAt g t n o =
-              record { inside = h; applies = a; isDefining = given .table .function (ruleOf t n) f r s .targetDefining } in
+      record { inside = h; applies = a; isDefining = given .table .function (ruleOf t n) f r s .targetDefining } in
       let v = defined-computed given values n o d in
       let k : ℕ = v .0 in
       let kt : k < total p t = v .1 in
@@ -69,13 +69,13 @@ module _ {g p t : List ℕ} (values : List ℤ) (given : Given g p t (length val
   pub terminals-stay : (k : ℕ) → SameTerminals g t (machineAt g p t values k .values) values
   terminals-stay k n a h e s =
       never-computed (8 * n + a) k (λ j v.
-          no-terminal given values j n a
-          (attribute-eight (given .table) (given .tree) n a (record { inside = h; exists = s })) (is-terminal n h e) v)
+      no-terminal given values j n a
+      (attribute-eight (given .table) (given .tree) n a (record { inside = h; exists = s })) (is-terminal n h e) v)
     where
       is-terminal : (n : ℕ) → n < nodes t → kind g (symbolAtNode g t n) ≡ 1 → T (not (appliesRule t n))
       is-terminal n h e =
           ⊎-elim
           (λ q.
-              let z : kind g (symbolAtNode g t n) ≡ 0 = eqb→eq _ 0 (applies-nonterminal (given .table) (given .tree) n h q) in
-              absurd (omega arith))
+          let z : kind g (symbolAtNode g t n) ≡ 0 = eqb→eq _ 0 (applies-nonterminal (given .table) (given .tree) n h q) in
+          absurd (omega arith))
           (λ q. q) (tested (appliesRule t n))

@@ -37,8 +37,12 @@ module _ (g t : List ℕ) where
   child-depth : (d n i c : ℕ) → ChildOf g t n i c → suc (depthBelow g t d c) ≤ depthBelow g t (suc d) n
   child-depth d n zero c w = absurd (omega (arith, w .first))
   child-depth d n (suc i) c w =
-      omega (arith, depth-applies d n (w .applies), ap (λ (x : ℕ). depthBelow g t d x) (w .names),
-      highest-bounds (rightLength g (ruleOf t n)) (λ i. depthBelow g t d (child t n (suc i))) i (w .last))
+      omega (
+        arith,
+        depth-applies d n (w .applies),
+        ap (λ (x : ℕ). depthBelow g t d x) (w .names),
+        highest-bounds (rightLength g (ruleOf t n)) (λ i. depthBelow g t d (child t n (suc i))) i (w .last),
+      )
 
   -- what stands above the last node of a path, and the depth below it, are together no more than the depth below the root
   path-depth : (d c : ℕ) (rest : List ℕ) → PathDown g t (c ∷ rest) → length rest + depthBelow g t d c ≤ depthBelow g t (length rest + d) 0
@@ -96,24 +100,33 @@ module _ {g p t : List ℕ} {l : ℕ} (given : Given g p t l) where
   reached (suc d) c rest w h =
       ⊎-elim
       (λ s.
-          let v = highest-reached r below s in
-          let i : ℕ = v .0 in
-          let x : ℕ = child t c (suc i) in
-          let deep : 1 ≤ depthBelow g t d x = omega (arith, v .2) in
-          let u = reached d x (c ∷ rest)
-                  (record {
-                      slot = suc i; applies = some-applies g t d x deep;
-                      isChild = record {
-                          inside = top-inside given c rest w; applies = a; first = omega arith; last = v .1; names = refl
-                      }
-                  }, w) (some-fuel g t d x deep) in
-          (u .0, u .1, omega (arith, u .2, v .2, depth-applies g t d c a)))
+      let v = highest-reached r below s in
+      let i : ℕ = v .0 in
+      let x : ℕ = child t c (suc i) in
+      let deep : 1 ≤ depthBelow g t d x = omega (arith, v .2) in
+      let u = reached d x (c ∷ rest) (
+        record {
+          slot = suc i;
+          applies = some-applies g t d x deep;
+          isChild = record {
+            inside = top-inside given c rest w;
+            applies = a;
+            first = omega arith;
+            last = v .1;
+            names = refl;
+          };
+        },
+        w,
+      ) (some-fuel g t d x deep) in
+      (u .0, u .1, omega (arith, u .2, v .2, depth-applies g t d c a)))
       (λ s. (c ∷ rest, w, omega (arith, depth-applies g t d c a))) (below-or-not 0 (highest r below))
     where
       a : T (appliesRule t c)
       a = top-applies given c rest w
+
       r : ℕ
       r = rightLength g (ruleOf t c)
+
       below : ℕ → ℕ
       below i = depthBelow g t d (child t c (suc i))
 

@@ -45,14 +45,15 @@ walked-less p t places zero f m h a l = absurd (omega arith)
 walked-less p t places (suc k) f m h a l =
     ⊎-elim (λ s. go (appliesRule t k) refl (walked-less p t places k (λ n i. f n (omega arith)) m s a l))
     (λ s.
-        here (appliesRule t k) (subst (λ (n : ℕ). T (appliesRule t n)) s a)
-        (subst (λ (n : ℕ). word places n < sequenceLength p (ruleOf t n)) s l) (walked-most p t places k (λ n i. f n (omega arith))))
+    here (appliesRule t k) (subst (λ (n : ℕ). T (appliesRule t n)) s a)
+    (subst (λ (n : ℕ). word places n < sequenceLength p (ruleOf t n)) s l) (walked-most p t places k (λ n i. f n (omega arith))))
     (below-suc m k h)
   where
     go : (b : Bool) → appliesRule t k ≡ b → walked t places k < totalUpTo (λ r. sequenceLength p r) t k
         → walked t places k + cond b (word places k) 0 < totalUpTo (λ r. sequenceLength p r) t k + cond b (sequenceLength p (ruleOf t k)) 0
     go true e h = omega (arith, f k (omega arith) (true-T _ e))
     go false e h = omega arith
+
     here : (b : Bool) → T b → word places k < sequenceLength p (ruleOf t k) → walked t places k ≤ totalUpTo (λ r. sequenceLength p r) t k
         → walked t places k + cond b (word places k) 0 < totalUpTo (λ r. sequenceLength p r) t k + cond b (sequenceLength p (ruleOf t k)) 0
     here true e l h = omega arith
@@ -89,18 +90,20 @@ walked-on t places m (suc k) h l a =
     ⊎-elim
     (λ s. go (appliesRule t k) (walked-on t places m k s l a) (getD-set-other places m k (suc (word places m)) 0 (λ e. omega arith)))
     (λ s.
-        here (appliesRule t k) (subst (λ (n : ℕ). T (appliesRule t n)) s a)
-        (walked-beyond t places m (suc (word places m)) k (omega arith))
-        (ap (λ (x : ℕ). word (set places m (suc (word places m))) x) (sym s)
-        ∙ (getD-set-same places m (suc (word places m)) 0 l ∙ ap (λ (x : ℕ). suc (word places x)) s)))
+    here (appliesRule t k) (subst (λ (n : ℕ). T (appliesRule t n)) s a)
+    (walked-beyond t places m (suc (word places m)) k (omega arith))
+    (ap (λ (x : ℕ). word (set places m (suc (word places m))) x) (sym s)
+    ∙ (getD-set-same places m (suc (word places m)) 0 l ∙ ap (λ (x : ℕ). suc (word places x)) s)))
     (below-suc m k h)
   where
     after′ : List ℕ
     after′ = set places m (suc (word places m))
+
     go : (b : Bool) → walked t after′ k ≡ suc (walked t places k) → word after′ k ≡ word places k
         → walked t after′ k + cond b (word after′ k) 0 ≡ suc (walked t places k + cond b (word places k) 0)
     go true d e = omega arith
     go false d e = omega arith
+
     here : (b : Bool) → T b → walked t after′ k ≡ walked t places k → word after′ k ≡ suc (word places k)
         → walked t after′ k + cond b (word after′ k) 0 ≡ suc (walked t places k + cond b (word places k) 0)
     here true i d e = omega arith
@@ -117,7 +120,7 @@ module _ {g p t : List ℕ} {l : ℕ} (given : Given g p t l) (values : List ℤ
       let inside : n < nodes t = top-inside given n rest (b′ .path) in
       ap (λ (q : Machine). walked t (q .places) (nodes t)) (step-on g p t m n rest (actionOf p t (m .places) n) e refl)
       ∙ (ap (λ (s : List ℕ). walked t s (nodes t))
-          (act-places g t (actionOf p t (m .places) n) n rest (set (m .places) n (suc (word (m .places) n))) (m .values))
+      (act-places g t (actionOf p t (m .places) n) n rest (set (m .places) n (suc (word (m .places) n))) (m .values))
       ∙ walked-on t (m .places) n (nodes t) inside (omega (arith, b .placesLength)) (top-applies given n rest (b′ .path)))
 
   -- with an empty stack the sum is the total, with a node on top it is less

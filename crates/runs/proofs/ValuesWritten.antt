@@ -39,12 +39,14 @@ module _ (g p t : List ℕ) (values : List ℤ) where
     where
       m : Machine
       m = machineAt g p t values k
+
       by-action : (n : ℕ) (rest : List ℕ) → m .stack ≡ n ∷ rest → (a : Action) → actionOf p t (m .places) n ≡ a → Written k
       by-action n rest e (compute o) d =
           writes n o (record { rest = rest; stackIs = e; actionIs = d }) (ap (λ (q : Machine). q .values) (step-on g p t m n rest (compute o) e d))
       by-action n rest e (visit i v) d = keeps (ap (λ (q : Machine). q .values) (step-on g p t m n rest (visit i v) e d))
       by-action n rest e (leave v) d = keeps (ap (λ (q : Machine). q .values) (step-on g p t m n rest (leave v) e d))
       by-action n rest e none d = keeps (ap (λ (q : Machine). q .values) (step-on g p t m n rest none e d))
+
       go : (s : List ℕ) → m .stack ≡ s → Written k
       go [] e = keeps (ap (λ (q : Machine). q .values) (empty-stays g p t m e))
       go (n ∷ rest) e = by-action n rest e (actionOf p t (m .places) n) refl
@@ -93,8 +95,9 @@ function-for {g} table r f h s =
     least-one (functions g r) (λ k. eqb (target g r k) (target g r f)) _ f
     (least-is (functions g r) (λ k. eqb (target g r k) (target g r f)))
     (record {
-        inside = omega arith; passes = λ q. eq-T (target g r f) (target g r f) refl;
-        lowest = λ k q e. table .function r f h s .targetOnce k q (eqb→eq (target g r k) (target g r f) e)
+      inside = omega arith;
+      passes = λ q. eq-T (target g r f) (target g r f) refl;
+      lowest = λ k q e. table .function r f h s .targetOnce k q (eqb→eq (target g r k) (target g r f) e);
     })
 
 module _ {g p t : List ℕ} (values : List ℤ) (given : Given g p t (length values)) where
@@ -108,8 +111,12 @@ module _ {g p t : List ℕ} (values : List ℤ) (given : Given g p t (length val
       let m : Machine = machineAt g p t values k in
       let d : DefinedAt g t n o = computing-defined given values k n o w in
       let in-values : cell t n o < length (m .values) =
-              omega (arith, cell-inside (given .table) (given .tree) n o (d .inside) (d .applies) (defined-occurs (given .table) (given .tree) n o d),
-              given .tree .valuesFit, values-length g p t values k) in
+      omega (
+        arith,
+        cell-inside (given .table) (given .tree) n o (d .inside) (d .applies) (defined-occurs (given .table) (given .tree) n o d),
+        given .tree .valuesFit,
+        values-length g p t values k,
+      ) in
       ap (λ (q : Machine). valueAt (q .values) (cell t n o)) (step-on g p t m n (w .rest) (compute o) (w .stackIs) (w .actionIs))
       ∙ (getD-set-same (m .values) (cell t n o) _ (pos 0) in-values
       ∙ ap (λ (j : ℕ). functionValue g t (m .values) n j)

@@ -30,8 +30,8 @@ unfoldable pub runOn : List ℕ → List ℕ → List ℕ → ℕ → ℕ → Ma
 runOn g p t zero count m = record { answer = lastAnswer (idle (m .stack)) count; machine = m }
 runOn g p t (suc budget) count m =
     elim (idle (m .stack)) [
-        true ↦ record { answer = R.the-variants.Done count; machine = m }
-        | false ↦ runOn g p t budget (suc count) (step g p t m)
+      | true ↦ record { answer = R.the-variants.Done count; machine = m }
+      | false ↦ runOn g p t budget (suc count) (step g p t m)
     ]
 
 -- the run of plan p over tree t: "done with its count of actions, or stopped with the budget"

@@ -7,7 +7,17 @@ use mathlib.Core.List.{List}
 use lib.Dec.{T}
 use Rattle.grammar.specs.Limits.{mostSymbols, mostAttributes, ruleWords}
 use Rattle.grammar.specs.Table.{
-    start, attributes, nonterminal, symbolOf, functions, target, argument, arguments, position, ruleCounts, symbolCounts
+  start,
+  attributes,
+  nonterminal,
+  symbolOf,
+  functions,
+  target,
+  argument,
+  arguments,
+  position,
+  ruleCounts,
+  symbolCounts,
 }
 use Rattle.sets.specs.Paper.{ofClass}
 use Rattle.sets.specs.Visits.{setNumber, visits}

@@ -26,11 +26,11 @@ pub links-turn : {start tree next : List ℕ} {k : ℕ} → Linked start k tree 
 unfolding links
 links-turn {start} {tree} {next} {k} w h p =
     record {
-        few = omega arith;
-        holds = record {
-            is = p .is ∙ (ap (λ (t : List ℕ). put (k + 1) 1 (k + 2) 0 t) (w .holds .is) ∙ sym (ap (λ (n : ℕ). links n start) (add-one k)));
-            long = p .long
-        }
+      few = omega arith;
+      holds = record {
+        is = p .is ∙ (ap (λ (t : List ℕ). put (k + 1) 1 (k + 2) 0 t) (w .holds .is) ∙ sym (ap (λ (n : ℕ). links n start) (add-one k)));
+        long = p .long;
+      };
     }
 
 pub links-end : (lent start tree out : List ℕ) (k : ℕ) → Holds (put 0 0 1 0 lent) start → Linked start k tree → 1022 ≤ k → Holds (put 1023 2 0 0 tree) out
@@ -39,11 +39,11 @@ unfolding longChain
 links-end lent start tree out k s w h p =
     let e : k ≡ 1022 = omega (arith, w .few) in
     record {
-        is =
-            p .is
-            ∙ (ap (λ (t : List ℕ). put 1023 2 0 0 t) (w .holds .is ∙ ap (λ (n : ℕ). links n start) e)
-            ∙ ap (λ (t : List ℕ). put 1023 2 0 0 (links 1022 t)) (s .is));
-        long = p .long
+      is =
+          p .is
+          ∙ (ap (λ (t : List ℕ). put 1023 2 0 0 t) (w .holds .is ∙ ap (λ (n : ℕ). links n start) e)
+          ∙ ap (λ (t : List ℕ). put 1023 2 0 0 (links 1022 t)) (s .is));
+      long = p .long;
     }
 
 -- k lines of G's tree stand on it
@@ -64,11 +64,11 @@ pub lines-turn : {start tree next : List ℕ} {k : ℕ} → Lined start k tree �
 unfolding lines
 lines-turn {start} {tree} {next} {k} w h p =
     record {
-        few = omega arith;
-        holds = record {
-            is = p .is ∙ (ap (λ (t : List ℕ). line k t) (w .holds .is) ∙ sym (ap (λ (n : ℕ). lines n start) (add-one k)));
-            long = p .long
-        }
+      few = omega arith;
+      holds = record {
+        is = p .is ∙ (ap (λ (t : List ℕ). line k t) (w .holds .is) ∙ sym (ap (λ (n : ℕ). lines n start) (add-one k)));
+        long = p .long;
+      };
     }
 
 pub lines-end : (lent start tree last out : List ℕ) (k : ℕ) → Holds (put 0 0 1 0 lent) start → Lined start k tree → 510 ≤ k
@@ -77,11 +77,11 @@ unfolding manyLines
 lines-end lent start tree last out k s w h l p =
     let e : k ≡ 510 = omega (arith, w .few) in
     record {
-        is =
-            p .is
-            ∙ ap (λ (t : List ℕ). put 1022 32770 0 0 t)
-            (l .is
-            ∙ (ap (λ (t : List ℕ). put 1021 2 1022 0 t) (w .holds .is ∙ ap (λ (n : ℕ). lines n start) e)
-            ∙ ap (λ (t : List ℕ). put 1021 2 1022 0 (lines 510 t)) (s .is)));
-        long = p .long
+      is =
+          p .is
+          ∙ ap (λ (t : List ℕ). put 1022 32770 0 0 t)
+          (l .is
+          ∙ (ap (λ (t : List ℕ). put 1021 2 1022 0 t) (w .holds .is ∙ ap (λ (n : ℕ). lines n start) e)
+          ∙ ap (λ (t : List ℕ). put 1021 2 1022 0 (lines 510 t)) (s .is)));
+      long = p .long;
     }

@@ -9,11 +9,48 @@ ghost use Rattle.scenarios.specs.Nodes as nodes;
 // A chain in which each node tells the next how deep it is, and the depth of the last goes up to the root:
 // Z to A, A to A, A to nothing; A has the depth found below, its own depth, and 1 to add.
 const CHAIN: [u16; 42] = [
-    2, 3, 0,
-    0, 1, 0, 0, 3, 6,
-    0, 1, 1, 3, 0, 1, 8, 9, 0, 1, 10, 0, 1,
-    1, 1, 1, 3, 0, 1, 8, 9, 2, 1, 2, 10, 1, 2,
-    1, 0, 1, 0, 1, 1,
+    2,
+    3,
+    0,
+    0,
+    1,
+    0,
+    0,
+    3,
+    6,
+    0,
+    1,
+    1,
+    3,
+    0,
+    1,
+    8,
+    9,
+    0,
+    1,
+    10,
+    0,
+    1,
+    1,
+    1,
+    1,
+    3,
+    0,
+    1,
+    8,
+    9,
+    2,
+    1,
+    2,
+    10,
+    1,
+    2,
+    1,
+    0,
+    1,
+    0,
+    1,
+    1,
 ];
 
 // What stands in a value before the run, so that a value of 0 shows as written.
@@ -136,7 +173,14 @@ fn run_large(words: &[u16], tree: &[u16], nodes: usize, last: usize, budget: u32
     let mut plan = [0u16; 592];
     let mut values = [4i32; 8192];
     values[4096] = 7;
-    let report = runner::run(words, &mut rows, &mut plan, &tree[..end], &mut values, budget);
+    let report = runner::run(
+        words,
+        &mut rows,
+        &mut plan,
+        &tree[..end],
+        &mut values,
+        budget,
+    );
     printing::word(b"nodes");
     printing::number(nodes as u64);
     printing::word(b" ");

@@ -11,14 +11,37 @@ use lib.ListN.{length}
 use Rattle.basics.specs.Tests.{_and_, _or_, count}
 use Rattle.basics.specs.Lists.{member}
 use Rattle.basics.proofs.TestLaws.{
-    and-intro, and-left, and-right, or-left, or-right, eq-T, chosen, passed-over, below-or-not, count-mono
+  and-intro,
+  and-left,
+  and-right,
+  or-left,
+  or-right,
+  eq-T,
+  chosen,
+  passed-over,
+  below-or-not,
+  count-mono,
 }
 use Rattle.basics.proofs.ListLaws.{member-passing, passing-member}
 use Rattle.grammar.specs.Table.{rightLength, symbolOf, nonterminal, occurrence, inheritedAt, defining, position}
 use Rattle.sets.specs.Visits.{visits}
 use Rattle.sequences.specs.Actions.{
-    Action, compute, visit, leave, none, numberOf, decode, actionNumbers, mostActions, belongs, isAction, actionsOf, visitAt,
-    inheritedOf, synthesizedOf, makes
+  Action,
+  compute,
+  visit,
+  leave,
+  none,
+  numberOf,
+  decode,
+  actionNumbers,
+  mostActions,
+  belongs,
+  isAction,
+  actionsOf,
+  visitAt,
+  inheritedOf,
+  synthesizedOf,
+  makes,
 }
 use Rattle.sequences.proofs.Rising.{Rising, rising-passing, length-passing}
 
@@ -71,12 +94,12 @@ pub decoded : (n : ℕ) → Decoded n
 decoded n =
     ⊎-elim (λ h. isCompute n h refl (decode-compute n h))
     (λ h.
-        ⊎-elim
-        (λ l. isVisit ((n - 64) / 8) (n % 8 + 1) (omega arith) (omega arith) (omega arith) (omega arith) (decode-visit n h l))
-        (λ l.
-            ⊎-elim (λ k. isLeave (n - 128 + 1) (omega arith) (omega arith) (omega arith) (decode-leave n l k))
-            (λ k. isNone k (decode-none n k)) (below-or-not n 136))
-        (below-or-not n 128))
+    ⊎-elim
+    (λ l. isVisit ((n - 64) / 8) (n % 8 + 1) (omega arith) (omega arith) (omega arith) (omega arith) (decode-visit n h l))
+    (λ l.
+    ⊎-elim (λ k. isLeave (n - 128 + 1) (omega arith) (omega arith) (omega arith) (decode-leave n l k))
+    (λ k. isNone k (decode-none n k)) (below-or-not n 136))
+    (below-or-not n 128))
     (below-or-not n 64)
 
 -- the action of an action's number is that action
@@ -155,8 +178,11 @@ module _ (g s : List ℕ) (r : ℕ) where
       let v = and-right _ _ u in
       let w = and-right _ _ v in
       record {
-          child = leb→le _ _ (and-left _ _ t); inside = leb→le _ _ (and-left _ _ u); nonterminalThere = and-left _ _ v;
-          first = leb→le _ _ (and-left _ _ w); last = leb→le _ _ (and-right _ _ w)
+        child = leb→le _ _ (and-left _ _ t);
+        inside = leb→le _ _ (and-left _ _ u);
+        nonterminalThere = and-left _ _ v;
+        first = leb→le _ _ (and-left _ _ w);
+        last = leb→le _ _ (and-right _ _ w);
       }
 
   -- a leave exactly where it is one of the left side's
@@ -258,8 +284,12 @@ module _ (g s : List ℕ) (r : ℕ) (five : (x : ℕ) → visits s x ≤ 5) wher
   pub at-most-104 : length (actionsOf g s r) ≤ mostActions
   unfolding actionsOf
   at-most-104 =
-      omega (arith, length-passing actionNumbers (λ a. isAction g s r a), stands-104,
-      count-mono actionNumbers (λ a. isAction g s r a) may-stand (λ a l t. action-stands a t))
+      omega (
+        arith,
+        length-passing actionNumbers (λ a. isAction g s r a),
+        stands-104,
+        count-mono actionNumbers (λ a. isAction g s r a) may-stand (λ a l t. action-stands a t),
+      )
 
 -- occurrence o is an attribute at position i, of visit n
 pub record OfVisit (g s : List ℕ) (r i n o : ℕ) : Type 0 where
@@ -273,9 +303,10 @@ module _ (g s : List ℕ) (r i n o : ℕ) where
   unfolding inheritedOf
   inherited-of t =
       let u = and-right _ _ t in
-      let v = and-right _ _ u in
-      (record { occurs = and-left _ _ t; stands = eqb→eq _ _ (and-left _ _ u); visitIs = eqb→eq _ _ (and-right _ _ v) },
-      and-left _ _ v)
+      let v = and-right _ _ u in (
+        record { occurs = and-left _ _ t; stands = eqb→eq _ _ (and-left _ _ u); visitIs = eqb→eq _ _ (and-right _ _ v) },
+        and-left _ _ v,
+      )
 
   -- and back
   pub of-inherited : OfVisit g s r i n o → T (inheritedAt g r o) → T (inheritedOf g s r i n o)
@@ -288,9 +319,10 @@ module _ (g s : List ℕ) (r i n o : ℕ) where
   unfolding synthesizedOf
   synthesized-of t =
       let u = and-right _ _ t in
-      let v = and-right _ _ u in
-      (record { occurs = and-left _ _ t; stands = eqb→eq _ _ (and-left _ _ u); visitIs = eqb→eq _ _ (and-right _ _ v) },
-      and-left _ _ v)
+      let v = and-right _ _ u in (
+        record { occurs = and-left _ _ t; stands = eqb→eq _ _ (and-left _ _ u); visitIs = eqb→eq _ _ (and-right _ _ v) },
+        and-left _ _ v,
+      )
 
   -- and back
   pub of-synthesized : OfVisit g s r i n o → T (not (inheritedAt g r o)) → T (synthesizedOf g s r i n o)

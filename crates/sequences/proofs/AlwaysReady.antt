@@ -22,10 +22,12 @@ module _ (g ids s : List ℕ) (r : ℕ) (h : Orderly g ids s r) where
   pub always-ready : (xs : List ℕ) → 1 ≤ length xs → ((a : ℕ) → T (member a xs) → T (isAction g s r a))
       → (a : ℕ) × T (member a xs) × T (ready (λ a b. follows g ids s r a b) xs a)
   always-ready xs l f =
-      let w = lowest-member (λ a. height g ids s r (decode a)) xs l in
-      (w .0, w .1,
-      ready-intro (λ a b. follows g ids s r a b) xs (w .0)
-      (λ b m t. omega (arith, w .2 b m, follows-higher g ids s r h (w .0) b (f (w .0) (w .1)) (f b m) t)))
+      let w = lowest-member (λ a. height g ids s r (decode a)) xs l in (
+        w .0,
+        w .1,
+        ready-intro (λ a b. follows g ids s r a b) xs (w .0)
+            (λ b m t. omega (arith, w .2 b m, follows-higher g ids s r h (w .0) b (f (w .0) (w .1)) (f b m) t)),
+      )
 
   -- the sequence has all of the rule's actions
   pub sequence-whole : length (sequenceOf g ids s r) ≡ length (actionsOf g s r)

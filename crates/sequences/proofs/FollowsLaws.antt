@@ -32,11 +32,16 @@ module _ (g ids s : List ℕ) (r : ℕ) where
   unfolding linked
   linked-find later earlier t =
       let v = some-find mostOccurrences
-              (λ b. makes g s r later b and some mostOccurrences (λ a. makes g s r earlier a and edp g ids s r a b)) t in
+      (λ b. makes g s r later b and some mostOccurrences (λ a. makes g s r earlier a and edp g ids s r a b)) t in
       let w = some-find mostOccurrences (λ a. makes g s r earlier a and edp g ids s r a (v .0)) (and-right _ _ (v .2)) in
       record {
-          source = w .0; goal = v .0; sourceFits = w .1; goalFits = v .1; sourceMade = and-left _ _ (w .2);
-          goalMade = and-left _ _ (v .2); arc = and-right _ _ (w .2)
+        source = w .0;
+        goal = v .0;
+        sourceFits = w .1;
+        goalFits = v .1;
+        sourceMade = and-left _ _ (w .2);
+        goalMade = and-left _ _ (v .2);
+        arc = and-right _ _ (w .2);
       }
 
   -- and passes where there is one
@@ -53,9 +58,10 @@ module _ (g ids s : List ℕ) (r : ℕ) where
   pub follows-cases : (later earlier : ℕ) → T (follows g ids s r later earlier)
       → (later ≡ earlier → ⊥) × (Linked g ids s r (decode later) (decode earlier) ⊎ T (besides g s r (decode later) (decode earlier)))
   unfolding follows
-  follows-cases later earlier t =
-      (λ e. T-not (eqb later earlier) (and-left _ _ t) (eq-T later earlier e),
-      ⊎-elim (λ l. inl (linked-find (decode later) (decode earlier) l)) (λ b. inr b) (or-cases _ _ (and-right _ _ t)))
+  follows-cases later earlier t = (
+    λ e. T-not (eqb later earlier) (and-left _ _ t) (eq-T later earlier e),
+    ⊎-elim (λ l. inl (linked-find (decode later) (decode earlier) l)) (λ b. inr b) (or-cases _ _ (and-right _ _ t)),
+  )
 
   -- "An action follows a different one where an EDP arc links what they make available."
   pub follows-linked : (later earlier : ℕ) → (later ≡ earlier → ⊥) → Linked g ids s r (decode later) (decode earlier)
@@ -89,9 +95,9 @@ module _ (g ids s : List ℕ) (r : ℕ) where
   visit-after-compute later i n o d h t =
       follows-besides later o (visit i n) (compute o) d (decode-compute o h)
       (λ q.
-          let z : visit i n ≡ compute o = sym d ∙ (ap decode q ∙ decode-compute o h) in
-          let y : _≡_ {A = ℕ} 0 1 = cc in
-          omega arith) t
+      let z : visit i n ≡ compute o = sym d ∙ (ap decode q ∙ decode-compute o h) in
+      let y : _≡_ {A = ℕ} 0 1 = cc in
+      omega arith) t
 
   -- "the last leave follows everything"
   pub last-leave-after : (later earlier : ℕ) → decode later ≡ leave (visits s (symbolOf g r 0)) → (later ≡ earlier → ⊥)
@@ -118,9 +124,9 @@ module _ (g ids s : List ℕ) (r : ℕ) where
   leave-after-compute later n o d h t =
       follows-besides later o (leave n) (compute o) d (decode-compute o h)
       (λ q.
-          let z : leave n ≡ compute o = sym d ∙ (ap decode q ∙ decode-compute o h) in
-          let y : _≡_ {A = ℕ} 0 1 = cc in
-          omega arith)
+      let z : leave n ≡ compute o = sym d ∙ (ap decode q ∙ decode-compute o h) in
+      let y : _≡_ {A = ℕ} 0 1 = cc in
+      omega arith)
       (or-right (eqb n (visits s (symbolOf g r 0))) (synthesizedOf g s r 0 n o) t)
 
   -- a compute follows the action that makes available what an EDP arc leads from
@@ -129,6 +135,11 @@ module _ (g ids s : List ℕ) (r : ℕ) where
   compute-after o earlier a t h l n m e =
       follows-linked o earlier n
       (record {
-          source = a; goal = o; sourceFits = l; goalFits = h; sourceMade = m;
-          goalMade = subst⁻¹ (λ (x : Action). T (makes g s r x o)) (decode-compute o h) (compute-makes g s r o t); arc = e
+        source = a;
+        goal = o;
+        sourceFits = l;
+        goalFits = h;
+        sourceMade = m;
+        goalMade = subst⁻¹ (λ (x : Action). T (makes g s r x o)) (decode-compute o h) (compute-makes g s r o t);
+        arc = e;
       })

@@ -10,12 +10,32 @@ use native.Mathlib.Omega.{arith}
 use lib.Dec.{T, leb, eqb, ltb→lt, lt→ltb, leb→le, le→leb, eqb→eq, T-not, not-T}
 use Rattle.basics.specs.Tests.{_and_, some, least, count}
 use Rattle.basics.proofs.TestLaws.{
-    and-intro, and-left, and-right, or-right, or-cases, some-at, some-find, eq-T, below-or-not, least-is, count-le, count-more,
-    tested
+  and-intro,
+  and-left,
+  and-right,
+  or-right,
+  or-cases,
+  some-at,
+  some-find,
+  eq-T,
+  below-or-not,
+  least-is,
+  count-le,
+  count-more,
+  tested,
 }
 use Rattle.grammar.specs.Limits.{mostOccurrences}
 use Rattle.grammar.specs.Table.{
-    symbols, attributes, nonterminal, symbolOf, occurrence, inheritedAt, defining, position, attribute, ruleCounts
+  symbols,
+  attributes,
+  nonterminal,
+  symbolOf,
+  occurrence,
+  inheritedAt,
+  defining,
+  position,
+  attribute,
+  ruleCounts,
 }
 use Rattle.grammar.specs.WellFormed.{WellFormed}
 use Rattle.grammar.proofs.AcceptedTable.{occurrence-fits}
@@ -23,7 +43,13 @@ use Rattle.relations.specs.Paper.{Path⁺}
 use Rattle.relations.specs.Computed.{arcIn, occurrences}
 use Rattle.relations.proofs.PathLaws.{path-sound, path-complete}
 use Rattle.relations.proofs.Occurrences.{
-    counts-below, occurs-inside, occurs-attribute, dp-sound, dp-target, dp-argument, occurrences-exact
+  counts-below,
+  occurs-inside,
+  occurs-attribute,
+  dp-sound,
+  dp-target,
+  dp-argument,
+  occurrences-exact,
 }
 use Rattle.sets.specs.Paper.{ofClass}
 use Rattle.sets.specs.Visits.{setNumber, visits, visitOfSet, visitOf}
@@ -33,8 +59,19 @@ use Rattle.order.specs.Computed.{besideArc, edp, edpPath}
 use Rattle.sequences.specs.Actions.{Action, compute, visit, leave, none, numberOf, decode, isAction, visitAt, makes}
 use Rattle.sequences.specs.Follows.{besides, beforeVisit, beforeLeave, follows}
 use Rattle.sequences.proofs.ActionLaws.{
-    ChildVisit, LeftLeave, ActionIs, computes, visitsChild, leaves, action-is, OfVisit, inherited-of, synthesized-of,
-    makes-compute, makes-visit, makes-leave
+  ChildVisit,
+  LeftLeave,
+  ActionIs,
+  computes,
+  visitsChild,
+  leaves,
+  action-is,
+  OfVisit,
+  inherited-of,
+  synthesized-of,
+  makes-compute,
+  makes-visit,
+  makes-leave,
 }
 use Rattle.grammar.proofs.OccurrenceLaws.{defining-left, defining-child}
 use Rattle.sequences.proofs.FollowsLaws.{follows-cases}
@@ -87,8 +124,8 @@ module _ (g ids s : List ℕ) (r : ℕ) where
   low-at i k o h t p l =
       ⊎-elim
       (λ q.
-          absurd (least-is 65 (λ d. some mostOccurrences (λ o. deepAs i k d o)) .lowest (depth o) q
-          (some-at mostOccurrences (λ p. deepAs i k (depth o) p) o h (deep-intro i k (depth o) o t p l refl))))
+      absurd (least-is 65 (λ d. some mostOccurrences (λ o. deepAs i k d o)) .lowest (depth o) q
+      (some-at mostOccurrences (λ p. deepAs i k (depth o) p) o h (deep-intro i k (depth o) o t p l refl))))
       (λ q. q) (below-or-not (depth o) (low i k))
 
   -- the occurrence that has the least depth
@@ -104,12 +141,16 @@ module _ (g ids s : List ℕ) (r : ℕ) where
   unfolding low deepAs
   low-find i k h =
       let w = some-find mostOccurrences (λ o. deepAs i k (low i k) o)
-              (least-is 65 (λ d. some mostOccurrences (λ o. deepAs i k d o)) .passes h) in
+      (least-is 65 (λ d. some mostOccurrences (λ o. deepAs i k d o)) .passes h) in
       let u = and-right _ _ (w .2) in
       let v = and-right _ _ u in
       record {
-          which = w .0; fits = w .1; occurs = and-left _ _ (w .2); stands = eqb→eq _ _ (and-left _ _ u);
-          set = leb→le _ _ (and-left _ _ v); depthIs = eqb→eq _ _ (and-right _ _ v)
+        which = w .0;
+        fits = w .1;
+        occurs = and-left _ _ (w .2);
+        stands = eqb→eq _ _ (and-left _ _ u);
+        set = leb→le _ _ (and-left _ _ v);
+        depthIs = eqb→eq _ _ (and-right _ _ v);
       }
 
   low-most : (i k : ℕ) → low i k ≤ 65
@@ -120,8 +161,8 @@ module _ (g ids s : List ℕ) (r : ℕ) where
   low-falls i k l h =
       ⊎-elim
       (λ q.
-          let w : Lowest i k = low-find i k q in
-          omega (arith, low-at i l (w .which) (w .fits) (w .occurs) (w .stands) (omega (arith, w .set)), w .depthIs))
+      let w : Lowest i k = low-find i k q in
+      omega (arith, low-at i l (w .which) (w .fits) (w .occurs) (w .stands) (omega (arith, w .set)), w .depthIs))
       (λ q. omega (arith, low-most i l)) (below-or-not (low i k) 65)
 
   depth-most : (o : ℕ) → depth o ≤ 64
@@ -144,8 +185,11 @@ module _ (g ids s : List ℕ) (r : ℕ) where
       let v = and-right _ _ u in
       let w = and-right _ _ v in
       record {
-          source = and-left _ _ t; goal = and-left _ _ u; same = eqb→eq _ _ (and-left _ _ v); nonterminalThere = and-left _ _ w;
-          arc = ⊎-elim (λ p. inl p) (λ p. inr (ltb→lt _ _ p)) (or-cases _ _ (and-right _ _ w))
+        source = and-left _ _ t;
+        goal = and-left _ _ u;
+        same = eqb→eq _ _ (and-left _ _ v);
+        nonterminalThere = and-left _ _ w;
+        arc = ⊎-elim (λ p. inl p) (λ p. inr (ltb→lt _ _ p)) (or-cases _ _ (and-right _ _ w));
       }
 
   -- an attribute of a higher set has an arc to each of a lower one at its position
@@ -186,9 +230,9 @@ module _ (g ids s : List ℕ) (r : ℕ) where
         subst (λ (i : ℕ). setNumber s (symbolOf g r i) (attribute b) ≤ setNumber s (symbolOf g r (position a)) (attribute a)) (w .same)
         (⊎-elim
         (λ t.
-            h .down (symbolOf g r (position a)) (attribute a) (attribute b) (symbol-fits a (w .source)) (w .nonterminalThere)
-            (occurs-attribute g r a (w .source))
-            (subst⁻¹ (λ (i : ℕ). attribute b < attributes g (symbolOf g r i)) (w .same) (occurs-attribute g r b (w .goal))) t)
+        h .down (symbolOf g r (position a)) (attribute a) (attribute b) (symbol-fits a (w .source)) (w .nonterminalThere)
+        (occurs-attribute g r a (w .source))
+        (subst⁻¹ (λ (i : ℕ). attribute b < attributes g (symbolOf g r i)) (w .same) (occurs-attribute g r b (w .goal))) t)
         (λ l. omega arith) (w .arc))
 
     -- an arc raises the depth
@@ -201,8 +245,10 @@ module _ (g ids s : List ℕ) (r : ℕ) where
       where
         arc : ℕ → ℕ → Bool
         arc c d = edp g ids s r c d
+
         found : (c d : ℕ) → T (edpPath g ids s r c d) → Path⁺ (λ x y. T (arc x y)) c d
         found c d u = path-sound arc (occurrences g r) c d u
+
         listed : (c d : ℕ) → Path⁺ (λ x y. T (arc x y)) c d → T (edpPath g ids s r c d)
         listed c d p =
             path-complete arc (occurrences g r)
@@ -214,12 +260,12 @@ module _ (g ids s : List ℕ) (r : ℕ) where
     low-above i k o t e n l =
         ⊎-elim
         (λ q.
-            let w : Lowest i k = low-find i k q in
-            let d : depth o < depth (w .which) =
-                    arc-deeper o (w .which)
-                    (higher-arc o (w .which) t (w .occurs) (e ∙ sym (w .stands)) (subst⁻¹ (λ (j : ℕ). T (nonterminal g (symbolOf g r j))) e n)
-                    (omega (arith, w .set))) in
-            omega (arith, w .depthIs))
+        let w : Lowest i k = low-find i k q in
+        let d : depth o < depth (w .which) =
+        arc-deeper o (w .which)
+        (higher-arc o (w .which) t (w .occurs) (e ∙ sym (w .stands)) (subst⁻¹ (λ (j : ℕ). T (nonterminal g (symbolOf g r j))) e n)
+        (omega (arith, w .set))) in
+        omega (arith, w .depthIs))
         (λ q. omega (arith, depth-most o)) (below-or-not (low i k) 65)
 
     pub placed-at : (o : ℕ) → T (occurrence g r o) → T (nonterminal g (symbolOf g r (position o)))
@@ -263,17 +309,21 @@ module _ (g ids s : List ℕ) (r : ℕ) where
     made-visit i n o l t =
         let m = makes-visit g s r i n o t in
         let w = synthesized-of g s r i n o (m .1) in
-        omega (arith,
-        low-at i (2 * (visits s (symbolOf g r i) + 1 - n) - 1) o (fits o (w .0 .occurs)) (w .0 .occurs) (w .0 .stands)
-        (omega (arith, set-synthesized i n o (w .0) (m .0) (w .1))))
+        omega (
+          arith,
+          low-at i (2 * (visits s (symbolOf g r i) + 1 - n) - 1) o (fits o (w .0 .occurs)) (w .0 .occurs) (w .0 .stands)
+              (omega (arith, set-synthesized i n o (w .0) (m .0) (w .1))),
+        )
 
     made-leave : (n o : ℕ) → n ≤ 8 → T (makes g s r (leave n) o) → height (leave n) ≤ 32 * depth o + 31
     unfolding height
     made-leave n o l t =
         let w = inherited-of g s r 0 (suc n) o (makes-leave g s r n o t) in
-        omega (arith,
-        low-at 0 (2 * (visits s (symbolOf g r 0) - n)) o (fits o (w .0 .occurs)) (w .0 .occurs) (w .0 .stands)
-        (omega (arith, set-inherited 0 (suc n) o (w .0) left-nonterminal (w .1))))
+        omega (
+          arith,
+          low-at 0 (2 * (visits s (symbolOf g r 0) - n)) o (fits o (w .0 .occurs)) (w .0 .occurs) (w .0 .stands)
+              (omega (arith, set-inherited 0 (suc n) o (w .0) left-nonterminal (w .1))),
+        )
 
     made-compute : (p o : ℕ) → T (makes g s r (compute p) o) → height (compute p) ≤ 32 * depth o + 31
     unfolding height
@@ -303,15 +353,21 @@ module _ (g ids s : List ℕ) (r : ℕ) where
     same-synthesized : (a b : ℕ) → BesideArc a b → setAt a ≡ setAt b → T (not (inheritedAt g r b)) → T (not (inheritedAt g r a))
     same-synthesized a b w e t =
         not-T (inheritedAt g r a) (λ u.
-            omega (arith, set-even a (w .source) (w .nonterminalThere) u,
-            set-odd b (w .goal) (subst (λ (j : ℕ). T (nonterminal g (symbolOf g r j))) (w .same) (w .nonterminalThere)) t))
+        omega (
+          arith,
+          set-even a (w .source) (w .nonterminalThere) u,
+          set-odd b (w .goal) (subst (λ (j : ℕ). T (nonterminal g (symbolOf g r j))) (w .same) (w .nonterminalThere)) t,
+        ))
 
     same-inherited : (a b : ℕ) → BesideArc a b → setAt a ≡ setAt b → T (inheritedAt g r b) → T (inheritedAt g r a)
     same-inherited a b w e t =
         ⊎-elim (λ u. u)
         (λ u.
-            absurd (omega (arith, set-odd a (w .source) (w .nonterminalThere) u,
-            set-even b (w .goal) (subst (λ (j : ℕ). T (nonterminal g (symbolOf g r j))) (w .same) (w .nonterminalThere)) t)))
+        absurd (omega (
+          arith,
+          set-odd a (w .source) (w .nonterminalThere) u,
+          set-even b (w .goal) (subst (λ (j : ℕ). T (nonterminal g (symbolOf g r j))) (w .same) (w .nonterminalThere)) t,
+        )))
         (tested (inheritedAt g r a))
 
     -- two attributes of one set are made available by one action
@@ -358,15 +414,17 @@ module _ (g ids s : List ℕ) (r : ℕ) where
     goal-visit a b i n earlier arc c t e m differs =
         let v = synthesized-of g s r i n b (makes-visit g s r i n b t .1) in
         let u = arc-beside a b arc
-                (λ q. T-not (inheritedAt g r b) (v .1) (defining-child g r b q (omega (arith, c .child, v .0 .stands)))) in
+        (λ q. T-not (inheritedAt g r b) (v .1) (defining-child g r b q (omega (arith, c .child, v .0 .stands)))) in
         let set : setAt b ≡ 2 * (visits s (symbolOf g r i) + 1 - n) - 1 = set-synthesized i n b (v .0) (c .nonterminalThere) (v .1) in
         ⊎-elim
         (λ l.
-            omega (arith,
-            low-above i (2 * (visits s (symbolOf g r i) + 1 - n) - 1) a (u .source) (u .same ∙ v .0 .stands) (c .nonterminalThere) (omega arith)))
+        omega (
+          arith,
+          low-above i (2 * (visits s (symbolOf g r i) + 1 - n) - 1) a (u .source) (u .same ∙ v .0 .stands) (c .nonterminalThere) (omega arith),
+        ))
         (λ l.
-            let q : setAt a ≡ setAt b = omega (arith, beside-down a b u) in
-            absurd (differs (one-visit i n a b earlier c (v .0) (same-synthesized a b u q (v .1)) (u .same) q e m)))
+        let q : setAt a ≡ setAt b = omega (arith, beside-down a b u) in
+        absurd (differs (one-visit i n a b earlier c (v .0) (same-synthesized a b u q (v .1)) (u .same) q e m)))
         (below-or-not (setAt b) (setAt a))
 
     goal-leave : (a b n earlier : ℕ) → T (edp g ids s r a b) → T (makes g s r (leave n) b) → ActionIs g s r earlier
@@ -379,11 +437,13 @@ module _ (g ids s : List ℕ) (r : ℕ) where
         let set : setAt b ≡ 2 * (visits s (symbolOf g r 0) + 1 - suc n) = set-inherited 0 (suc n) b (v .0) left-nonterminal (v .1) in
         ⊎-elim
         (λ l.
-            omega (arith,
-            low-above 0 (2 * (visits s (symbolOf g r 0) - n)) a (u .source) (u .same ∙ v .0 .stands) left-nonterminal (omega arith)))
+        omega (
+          arith,
+          low-above 0 (2 * (visits s (symbolOf g r 0) - n)) a (u .source) (u .same ∙ v .0 .stands) left-nonterminal (omega arith),
+        ))
         (λ l.
-            let q : setAt a ≡ setAt b = omega (arith, beside-down a b u) in
-            absurd (differs (one-leave n a b earlier (v .0) (same-inherited a b u q (v .1)) (u .same) q e m)))
+        let q : setAt a ≡ setAt b = omega (arith, beside-down a b u) in
+        absurd (differs (one-leave n a b earlier (v .0) (same-inherited a b u q (v .1)) (u .same) q e m)))
         (below-or-not (setAt b) (setAt a))
 
     goal-height : (later earlier a b : ℕ) → ActionIs g s r later → ActionIs g s r earlier → (later ≡ earlier → ⊥) → T (edp g ids s r a b)
@@ -403,9 +463,13 @@ module _ (g ids s : List ℕ) (r : ℕ) where
     low-last n e =
         ⊎-elim
         (λ q.
-            let w : Lowest 0 (2 * (visits s (symbolOf g r 0) - n)) = low-find 0 (2 * (visits s (symbolOf g r 0) - n)) q in
-            absurd (omega (arith, w .set, set-low (w .which) (w .occurs)
-            (subst⁻¹ (λ (j : ℕ). T (nonterminal g (symbolOf g r j))) (w .stands) left-nonterminal))))
+        let w : Lowest 0 (2 * (visits s (symbolOf g r 0) - n)) = low-find 0 (2 * (visits s (symbolOf g r 0) - n)) q in
+        absurd (omega (
+          arith,
+          w .set,
+          set-low (w .which) (w .occurs)
+              (subst⁻¹ (λ (j : ℕ). T (nonterminal g (symbolOf g r j))) (w .stands) left-nonterminal),
+        )))
         (λ q. q) (below-or-not (low 0 (2 * (visits s (symbolOf g r 0) - n))) 65)
 
     -- what an action follows besides stands lower
@@ -415,17 +479,21 @@ module _ (g ids s : List ℕ) (r : ℕ) where
     visit-higher i n earlier c (computes o l j d w) t =
         let v = inherited-of g s r i n o (subst (λ (x : Action). T (beforeVisit g s r i n x)) d t) in
         subst⁻¹ (λ (x : Action). height x < height (visit i n)) d
-        (omega (arith,
-        low-above i (2 * (visits s (symbolOf g r i) + 1 - n) - 1) o (v .0 .occurs) (v .0 .stands) (c .nonterminalThere)
-        (omega (arith, set-inherited i n o (v .0) (c .nonterminalThere) (v .1), c .first, c .last))))
+        (omega (
+          arith,
+          low-above i (2 * (visits s (symbolOf g r i) + 1 - n) - 1) o (v .0 .occurs) (v .0 .stands) (c .nonterminalThere)
+              (omega (arith, set-inherited i n o (v .0) (c .nonterminalThere) (v .1), c .first, c .last)),
+        ))
     visit-higher i n earlier c (visitsChild k m l q j d w) t =
         let v = subst (λ (x : Action). T (beforeVisit g s r i n x)) d t in
         let e : k ≡ i = eqb→eq k i (and-left (eqb k i) (eqb (suc m) n) v) in
         let f : suc m ≡ n = eqb→eq (suc m) n (and-right (eqb k i) (eqb (suc m) n) v) in
         subst⁻¹ (λ (x : Action). height x < height (visit i n)) d
         (subst⁻¹ (λ (p : ℕ). height (visit p m) < height (visit i n)) e
-        (omega (arith,
-        low-falls i (2 * (visits s (symbolOf g r i) + 1 - n) - 1) (2 * (visits s (symbolOf g r i) + 1 - m) - 1) (omega arith))))
+        (omega (
+          arith,
+          low-falls i (2 * (visits s (symbolOf g r i) + 1 - n) - 1) (2 * (visits s (symbolOf g r i) + 1 - m) - 1) (omega arith),
+        )))
     visit-higher i n earlier c (leaves m q j d w) t = absurd (subst (λ (x : Action). T (beforeVisit g s r i n x)) d t)
 
     leave-higher : (n earlier : ℕ) → LeftLeave g s r n → ActionIs g s r earlier → T (beforeLeave g s r n (decode earlier))
@@ -434,9 +502,11 @@ module _ (g ids s : List ℕ) (r : ℕ) where
     leave-higher n earlier c (computes o l j d w) t =
         let v = synthesized-of g s r 0 n o (subst (λ (x : Action). T (beforeLeave g s r n x)) d t) in
         subst⁻¹ (λ (x : Action). height x < height (leave n)) d
-        (omega (arith,
-        low-above 0 (2 * (visits s (symbolOf g r 0) - n)) o (v .0 .occurs) (v .0 .stands) left-nonterminal
-        (omega (arith, set-synthesized 0 n o (v .0) left-nonterminal (v .1), c .first, c .last))))
+        (omega (
+          arith,
+          low-above 0 (2 * (visits s (symbolOf g r 0) - n)) o (v .0 .occurs) (v .0 .stands) left-nonterminal
+              (omega (arith, set-synthesized 0 n o (v .0) left-nonterminal (v .1), c .first, c .last)),
+        ))
     leave-higher n earlier c (visitsChild k m l q j d w) t = absurd (subst (λ (x : Action). T (beforeLeave g s r n x)) d t)
     leave-higher n earlier c (leaves m q j d w) t =
         let f : suc m ≡ n = eqb→eq (suc m) n (subst (λ (x : Action). T (beforeLeave g s r n x)) d t) in
@@ -481,6 +551,9 @@ module _ (g ids s : List ℕ) (r : ℕ) where
         let y = action-is g s r earlier v in
         ⊎-elim
         (λ l.
-            omega (arith, maker-height earlier (l .source) y (l .sourceMade),
-            goal-height later earlier (l .source) (l .goal) x y (e .0) (l .arc) (l .sourceMade) (l .goalMade)))
+        omega (
+          arith,
+          maker-height earlier (l .source) y (l .sourceMade),
+          goal-height later earlier (l .source) (l .goal) x y (e .0) (l .arc) (l .sourceMade) (l .goalMade),
+        ))
         (λ b. besides-higher later earlier x y (e .0) b) (e .1)

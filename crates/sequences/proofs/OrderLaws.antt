@@ -16,7 +16,13 @@ use Rattle.sequences.specs.Order.{ready, firstReady, order}
 use Rattle.sequences.specs.Paper.{Earlier}
 use Rattle.sequences.specs.Paper as rule
 use Rattle.sequences.proofs.Rising.{
-    Rising, member-first, member-rest, without-member, member-without, rising-without, length-without
+  Rising,
+  member-first,
+  member-rest,
+  without-member,
+  member-without,
+  rising-without,
+  length-without,
 }
 
 -- the tie rule over a list of what remains and a test of following
@@ -80,6 +86,7 @@ module _ (after : ℕ → ℕ → Bool) where
       unready : ready after remaining x ≡ false → (b : ℕ) → b ≡ x → T (ready after remaining b) → ⊥
       unready e b i s =
           T-not (ready after remaining x) (false-T (ready after remaining x) e) (subst (λ (y : ℕ). T (ready after remaining y)) i s)
+
       go : (b : Bool) → ready after remaining x ≡ b → First after remaining xs default (firstReady after remaining xs default)
           → First after remaining (x ∷ xs) default (elim b [ true ↦ x | false ↦ firstReady after remaining xs default ])
       go true e f =
@@ -104,13 +111,13 @@ module _ (after : ℕ → ℕ → Bool) where
       → May after remaining (x ∷ out) (suc j) a → May after (without x remaining) out j a
   may-rest remaining x out j a w =
       record {
-          remains =
-              member-without x remaining a (w .remains)
-              (λ i. w .undone (record { place = 0; earlier = omega arith; standsThere = sym i }));
-          undone = λ e. w .undone (earlier-rest x out j a e);
-          predecessors = λ b m f.
-              let k : T (member b remaining) × (b ≡ x → ⊥) = without-member x remaining b m in
-              ⊎-elim (λ i. absurd (k .1 i)) (λ e. e) (earlier-cases x out j b (w .predecessors b (k .0) f))
+        remains =
+            member-without x remaining a (w .remains)
+            (λ i. w .undone (record { place = 0; earlier = omega arith; standsThere = sym i }));
+        undone = λ e. w .undone (earlier-rest x out j a e);
+        predecessors = λ b m f.
+            let k : T (member b remaining) × (b ≡ x → ⊥) = without-member x remaining b m in
+            ⊎-elim (λ i. absurd (k .1 i)) (λ e. e) (earlier-cases x out j b (w .predecessors b (k .0) f));
       }
 
   rest-may : (remaining : List ℕ) (x : ℕ) (out : List ℕ) (j a : ℕ)
@@ -118,9 +125,9 @@ module _ (after : ℕ → ℕ → Bool) where
   rest-may remaining x out j a w =
       let k : T (member a remaining) × (a ≡ x → ⊥) = without-member x remaining a (w .remains) in
       record {
-          remains = k .0;
-          undone = λ e. ⊎-elim (k .1) (w .undone) (earlier-cases x out j a e);
-          predecessors = λ b m f. go b m f (eqb b x) refl
+        remains = k .0;
+        undone = λ e. ⊎-elim (k .1) (w .undone) (earlier-cases x out j a e);
+        predecessors = λ b m f. go b m f (eqb b x) refl;
       }
     where
       go : (b : ℕ) → T (member b remaining) → T (after a b) → (c : Bool) → eqb b x ≡ c → Earlier (x ∷ out) (suc j) b
@@ -143,8 +150,8 @@ module _ (after : ℕ → ℕ → Bool) where
   tie-rest : (remaining : List ℕ) (x : ℕ) (out : List ℕ) → TieRule after remaining (x ∷ out) → TieRule after (without x remaining) out
   tie-rest remaining x out w =
       record {
-          next = λ j h. next-rest remaining x out j (getD out j 0) (w .next (suc j) (omega arith));
-          ends = λ a m. w .ends a (rest-may remaining x out (length out) a m)
+        next = λ j h. next-rest remaining x out j (getD out j 0) (w .next (suc j) (omega arith));
+        ends = λ a m. w .ends a (rest-may remaining x out (length out) a m);
       }
 
   tie-first : (remaining : List ℕ) (x : ℕ) (out : List ℕ) → Next after remaining (x ∷ out) 0 x → TieRule after (without x remaining) out
@@ -169,6 +176,7 @@ module _ (after : ℕ → ℕ → Bool) where
     where
       at : ℕ → Bool → List ℕ
       at m b = elim b [ true ↦ [] | false ↦ m ∷ order after n (without m remaining) ]
+
       go : (m : ℕ) → firstReady after remaining remaining 136 ≡ m → First after remaining remaining 136 m → Step n remaining
       go m e (found k t f) =
           takes m k t f
@@ -184,8 +192,8 @@ module _ (after : ℕ → ℕ → Bool) where
   tie-stops : (remaining : List ℕ) → NoneReady after remaining remaining → TieRule after remaining []
   tie-stops remaining f =
       record {
-          next = λ j h. absurd (omega arith);
-          ends = λ a m. f a (m .remains) (ready-may remaining [] a m)
+        next = λ j h. absurd (omega arith);
+        ends = λ a m. f a (m .remains) (ready-may remaining [] a m);
       }
 
   -- what the construction builds obeys the tie rule
@@ -206,8 +214,8 @@ module _ (after : ℕ → ℕ → Bool) where
           subst⁻¹ (λ (l : List ℕ). TieRule after remaining l) e
           (tie-first remaining a (order after n (without a remaining))
           (record {
-              may = may-ready remaining (a ∷ order after n (without a remaining)) a m t;
-              lowest = λ b l w. f b (w .remains) l (ready-may remaining (a ∷ order after n (without a remaining)) b w)
+            may = may-ready remaining (a ∷ order after n (without a remaining)) a m t;
+            lowest = λ b l w. f b (w .remains) l (ready-may remaining (a ∷ order after n (without a remaining)) b w);
           }) (ih a m))
 
   -- it is no longer than the list it orders
@@ -226,7 +234,7 @@ module _ (after : ℕ → ℕ → Bool) where
   -- where something is ready in every list of its members, it orders all of them
   pub order-all : (n : ℕ) (remaining : List ℕ) → length remaining ≡ n → Rising remaining → Numbers remaining
       → ((xs : List ℕ) → 1 ≤ length xs → ((a : ℕ) → T (member a xs) → T (member a remaining))
-          → (a : ℕ) × T (member a xs) × T (ready after xs a))
+      → (a : ℕ) × T (member a xs) × T (ready after xs a))
       → length (order after n remaining) ≡ n
   unfolding order
   order-all zero remaining h r below some = refl
@@ -253,15 +261,15 @@ module _ (after : ℕ → ℕ → Bool) where
     where
       go : Step n remaining
           → ((x : ℕ) → T (member x remaining) → length (order after n (without x remaining)) ≡ n
-              → (a : ℕ) → T (member a (without x remaining)) → Earlier (order after n (without x remaining)) n a)
+          → (a : ℕ) → T (member a (without x remaining)) → Earlier (order after n (without x remaining)) n a)
           → Earlier (order after (suc n) remaining) (suc n) a
       go (stops f e) ih = absurd (omega (arith, ap (λ (l : List ℕ). length l) e))
       go (takes x k t f e) ih =
           subst⁻¹ (λ (l : List ℕ). Earlier l (suc n) a) e
           (⊎-elim (λ i. record { place = 0; earlier = omega arith; standsThere = sym i })
           (λ i.
-              earlier-rest x (order after n (without x remaining)) n a
-              (ih x k (omega (arith, ap (λ (l : List ℕ). length l) e)) a (member-without x remaining a m i)))
+          earlier-rest x (order after n (without x remaining)) n a
+          (ih x k (omega (arith, ap (λ (l : List ℕ). length l) e)) a (member-without x remaining a m i)))
           (same-or-not a x))
 
   -- what may stand at the first place does not depend on the list
@@ -275,8 +283,8 @@ module _ (after : ℕ → ℕ → Bool) where
       let m : Next after remaining (y ∷ t) 0 y = w .next 0 (omega arith) in
       ⊎-elim (λ l. absurd (m .lowest x l (restart remaining (x ∷ s) (y ∷ t) x (n .may))))
       (λ l.
-          ⊎-elim (λ k. absurd (n .lowest y k (restart remaining (y ∷ t) (x ∷ s) y (m .may)))) (λ k. omega arith)
-          (below-or-not y x)) (below-or-not x y)
+      ⊎-elim (λ k. absurd (n .lowest y k (restart remaining (y ∷ t) (x ∷ s) y (m .may)))) (λ k. omega arith)
+      (below-or-not y x)) (below-or-not x y)
 
   -- the tie rule determines the list
   pub tie-one : (remaining s t : List ℕ) → TieRule after remaining s → TieRule after remaining t → s ≡ t
@@ -300,8 +308,8 @@ module _ (after : ℕ → ℕ → Bool) where
     tie-once j k h l e =
         ⊎-elim (λ p. absurd (rule .next k l .may .undone (record { place = j; earlier = p; standsThere = e })))
         (λ p.
-            ⊎-elim (λ q. absurd (rule .next j h .may .undone (record { place = k; earlier = q; standsThere = sym e })))
-            (λ q. omega arith) (below-or-not k j)) (below-or-not j k)
+        ⊎-elim (λ q. absurd (rule .next j h .may .undone (record { place = k; earlier = q; standsThere = sym e })))
+        (λ q. omega arith) (below-or-not k j)) (below-or-not j k)
 
     -- and each after all that it follows
     pub tie-after : (j : ℕ) → j < length out → (b : ℕ) → T (member b remaining) → T (after (getD out j 0) b) → Earlier out j b

@@ -17,9 +17,26 @@ use Rattle.sequences.specs.Actions.{Action, compute, visit, leave, none,
 use Rattle.sequences.specs.Paper.{visitsBy, visitBy, Belongs, OfVisit, Makes}
 use Rattle.sequences.specs.Paper as paper
 use Rattle.sequences.proofs.ActionLaws.{
-    ChildVisit, LeftLeave, compute-belongs, belongs-compute, visit-belongs, belongs-visit, leave-belongs, belongs-leave, belongs-none,
-    inherited-of, of-inherited, synthesized-of, of-synthesized, makes-compute, compute-makes, makes-visit, visit-makes, makes-leave,
-    leave-makes, makes-none
+  ChildVisit,
+  LeftLeave,
+  compute-belongs,
+  belongs-compute,
+  visit-belongs,
+  belongs-visit,
+  leave-belongs,
+  belongs-leave,
+  belongs-none,
+  inherited-of,
+  of-inherited,
+  synthesized-of,
+  of-synthesized,
+  makes-compute,
+  compute-makes,
+  makes-visit,
+  visit-makes,
+  makes-leave,
+  leave-makes,
+  makes-none,
 }
 use Rattle.sequences.proofs.ActionLaws as words
 
@@ -53,8 +70,11 @@ module _ (g s : List ℕ) (set : ℕ → ℕ → ℕ) (w : WellFormed g)
   belongs-back x (paper.visitsChild i n a b k f l) =
       visit-belongs g s r i n
       (record {
-          child = a; inside = b; nonterminalThere = eq-T (kind g (symbolOf g r i)) 0 k; first = f;
-          last = omega (arith, l, visits-are (symbolOf g r i) (symbol-inside i b))
+        child = a;
+        inside = b;
+        nonterminalThere = eq-T (kind g (symbolOf g r i)) 0 k;
+        first = f;
+        last = omega (arith, l, visits-are (symbolOf g r i) (symbol-inside i b));
       })
   belongs-back x (paper.leaves n f l) =
       leave-belongs g s r n (record { first = f; last = omega (arith, l, visits-are (symbolOf g r 0) (symbol-inside 0 (omega arith))) })
@@ -77,14 +97,16 @@ module _ (g s : List ℕ) (set : ℕ → ℕ → ℕ) (w : WellFormed g)
   of-back i n o v = record { occurs = v .occurs; stands = v .stands; visitIs = same-visit i o (v .occurs) (v .stands) ∙ v .visitIs }
 
   pub inherited-paper : (i n o : ℕ) → T (inheritedOf g s r i n o) ↔ (OfVisit g set r i n o × T (inheritedAt g r o))
-  inherited-paper i n o =
-      (λ t. let v = inherited-of g s r i n o t in (of-forth i n o (v .0), v .1),
-      λ v. of-inherited g s r i n o (of-back i n o (v .0)) (v .1))
+  inherited-paper i n o = (
+    λ t. let v = inherited-of g s r i n o t in (of-forth i n o (v .0), v .1),
+    λ v. of-inherited g s r i n o (of-back i n o (v .0)) (v .1),
+  )
 
   pub synthesized-paper : (i n o : ℕ) → T (synthesizedOf g s r i n o) ↔ (OfVisit g set r i n o × T (not (inheritedAt g r o)))
-  synthesized-paper i n o =
-      (λ t. let v = synthesized-of g s r i n o t in (of-forth i n o (v .0), v .1),
-      λ v. of-synthesized g s r i n o (of-back i n o (v .0)) (v .1))
+  synthesized-paper i n o = (
+    λ t. let v = synthesized-of g s r i n o t in (of-forth i n o (v .0), v .1),
+    λ v. of-synthesized g s r i n o (of-back i n o (v .0)) (v .1),
+  )
 
   -- an action makes available by the words what it makes available by the paper
   pub makes-forth : (x : Action) (o : ℕ) → T (makes g s r x o) → Makes g set r x o

@@ -24,7 +24,17 @@ use Rattle.order.specs.Computed.{edp}
 use Rattle.order.proofs.ExactEdp.{edp-exact, edp-from, edp-to}
 use Rattle.order.proofs.WholeGrammar.{number-is, edp-same, ordered-idp, ordered-back}
 use Rattle.sequences.specs.Actions.{
-    Action, compute, visit, leave, none, numberOf, decode, actionNumbers, mostActions, actionsOf, makes
+  Action,
+  compute,
+  visit,
+  leave,
+  none,
+  numberOf,
+  decode,
+  actionNumbers,
+  mostActions,
+  actionsOf,
+  makes,
 }
 use Rattle.sequences.specs.Follows.{beforeVisit, beforeLeave, besides, follows}
 use Rattle.sequences.specs.Order.{sequenceOf}
@@ -32,7 +42,13 @@ use Rattle.sequences.specs.Paper.{Belongs, Follows, Earlier, May, TieRul
 use Rattle.sequences.specs.Paper as paper
 use Rattle.sequences.proofs.ActionLaws.{decode-injective, number-decode, member-actions, actions-member, actions-below}
 use Rattle.sequences.proofs.FollowsLaws.{
-    follows-cases, follows-linked, visit-after-visit, visit-after-compute, leave-after-leave, leave-after-compute, last-leave-after
+  follows-cases,
+  follows-linked,
+  visit-after-visit,
+  visit-after-compute,
+  leave-after-leave,
+  leave-after-compute,
+  last-leave-after,
 }
 use Rattle.sequences.proofs.SequenceLaws.{sequence-tie, sequence-one, every-action}
 use Rattle.sequences.proofs.PlannedSequences.{orderly, planned-short}
@@ -44,9 +60,9 @@ module _ (A B : ℕ → Type 0) (R S : ℕ → ℕ → Type 0) (out : List ℕ) 
   may-along : (j a : ℕ) → May A R out j a → May B S out j a
   may-along j a m =
       record {
-          remains = forth a (m .remains);
-          undone = m .undone;
-          predecessors = λ b k f. m .predecessors b (back b k) (follow a b (m .remains) (back b k) f)
+        remains = forth a (m .remains);
+        undone = m .undone;
+        predecessors = λ b k f. m .predecessors b (back b k) (follow a b (m .remains) (back b k) f);
       }
 
 module _ (A B : ℕ → Type 0) (R S : ℕ → ℕ → Type 0) (out : List ℕ) (forth : (a : ℕ) → A a → B a) (back : (a : ℕ) → B a → A a)
@@ -60,11 +76,11 @@ module _ (A B : ℕ → Type 0) (R S : ℕ → ℕ → Type 0) (out : List ℕ) 
   tie-along : TieRule A R out → TieRule B S out
   tie-along t =
       record {
-          next = λ j h. record {
-              may = along j (word out j) (t .next j h .may);
-              lowest = λ b l m. t .next j h .lowest b l (against j b m)
-          };
-          ends = λ a m. t .ends a (against (length out) a m)
+        next = λ j h. record {
+          may = along j (word out j) (t .next j h .may);
+          lowest = λ b l m. t .next j h .lowest b l (against j b m);
+        };
+        ends = λ a m. t .ends a (against (length out) a m);
       }
 
 module _ (g : List ℕ) (good : readTable g ≡ Good) (free : CircularIDP g → ⊥) (set : ℕ → ℕ → ℕ) (sets : PaperSets g set) (r : ℕ)
@@ -85,9 +101,10 @@ module _ (g : List ℕ) (good : readTable g ≡ Good) (free : CircularIDP g → 
   same x a h l = number-is g good free set sets x a (omega (arith, formed .symbolsFit)) l
 
   arc : (a b : ℕ) → T (edp g ids s r a b) ↔ EDP g set r a b
-  arc a b =
-      (λ t. edp-same g good free set sets r a b .0 (edp-exact g good s r counts a b .0 t),
-      λ e. edp-exact g good s r counts a b .1 (edp-same g good free set sets r a b .1 e))
+  arc a b = (
+    λ t. edp-same g good free set sets r a b .0 (edp-exact g good s r counts a b .0 t),
+    λ e. edp-exact g good s r counts a b .1 (edp-same g good free set sets r a b .1 e),
+  )
 
   -- both ends of an arc are occurrences, and so below 64
   arc-small : (a b : ℕ) → EDP g set r a b → (a < mostOccurrences) × (b < mostOccurrences)
@@ -124,9 +141,9 @@ module _ (g : List ℕ) (good : readTable g ≡ Good) (free : CircularIDP g → 
       let d : ¬ (decode later ≡ decode earlier) = λ e. w .0 (decode-injective later earlier h l e) in
       ⊎-elim
       (λ k.
-          paper.linked (decode later) (decode earlier) (k .source) (k .goal) d
-          (makes-forth g s set formed same r inside (decode earlier) (k .source) (k .sourceMade))
-          (makes-forth g s set formed same r inside (decode later) (k .goal) (k .goalMade)) (arc (k .source) (k .goal) .0 (k .arc)))
+      paper.linked (decode later) (decode earlier) (k .source) (k .goal) d
+      (makes-forth g s set formed same r inside (decode earlier) (k .source) (k .sourceMade))
+      (makes-forth g s set formed same r inside (decode later) (k .goal) (k .goalMade)) (arc (k .source) (k .goal) .0 (k .arc)))
       (λ b. besides-forth (decode later) (decode earlier) d b) (w .1)
 
   -- where a compute follows, the number is the occurrence
@@ -142,10 +159,13 @@ module _ (g : List ℕ) (good : readTable g ≡ Good) (free : CircularIDP g → 
       let small = arc-small a b f in
       follows-linked g ids s r later earlier (λ q. n (sym d ∙ (ap decode q ∙ e)))
       (record {
-          source = a; goal = b; sourceFits = small .0; goalFits = small .1;
-          sourceMade = subst⁻¹ (λ (z : Action). T (makes g s r z a)) e (makes-back g s set formed same r inside y a m);
-          goalMade = subst⁻¹ (λ (z : Action). T (makes g s r z b)) d (makes-back g s set formed same r inside x b k);
-          arc = arc a b .1 f
+        source = a;
+        goal = b;
+        sourceFits = small .0;
+        goalFits = small .1;
+        sourceMade = subst⁻¹ (λ (z : Action). T (makes g s r z a)) e (makes-back g s set formed same r inside y a m);
+        goalMade = subst⁻¹ (λ (z : Action). T (makes g s r z b)) d (makes-back g s set formed same r inside x b k);
+        arc = arc a b .1 f;
       })
   follows-back later earlier x y h l d e (paper.nextVisit i n) = visit-after-visit g ids s r later earlier i n d e
   follows-back later earlier x y h l d e (paper.handedDown i n o v t) =

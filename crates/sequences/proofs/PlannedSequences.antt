@@ -47,11 +47,11 @@ module _ (g : List ℕ) (good : readTable g ≡ Good) (none : CircularIDP g → 
   pub orderly : (r : ℕ) → T (ruleCounts g r) → Orderly g (idsOf g) (setsOf g (idsOf g)) r
   orderly r c =
       record {
-          formed = accepted g good;
-          counts = c;
-          placed = placed;
-          down = down;
-          acyclic = λ o p. ordered r o c (path-map (λ a b t. edp-exact g good (setsOf g (idsOf g)) r c a b .0 t) p)
+        formed = accepted g good;
+        counts = c;
+        placed = placed;
+        down = down;
+        acyclic = λ o p. ordered r o c (path-map (λ a b t. edp-exact g good (setsOf g (idsOf g)) r c a b .0 t) p);
       }
 
   -- 11 never applies to an ordered table

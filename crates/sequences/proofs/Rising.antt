@@ -37,9 +37,10 @@ getD-member (x ∷ xs) (suc j) d h = member-rest (getD xs j d) x xs (getD-member
 -- rising lists end to end, the second above the first
 pub rising-append : (s t : List ℕ) → Rising s → Rising t → ((x y : ℕ) → T (member x s) → T (member y t) → x < y) → Rising (s ++ t)
 rising-append [] t r q f = q
-rising-append (x ∷ s) t r q f =
-    (λ y m. ⊎-elim (λ a. r .0 y a) (λ a. f x y (member-first x s) a) (member-append y s t m),
-    rising-append s t (r .1) q (λ z y m. f z y (member-rest z x s m)))
+rising-append (x ∷ s) t r q f = (
+  λ y m. ⊎-elim (λ a. r .0 y a) (λ a. f x y (member-first x s) a) (member-append y s t m),
+  rising-append s t (r .1) q (λ z y m. f z y (member-rest z x s m)),
+)
 
 -- the numbers that pass a test rise
 pub rising-passing : (n : ℕ) (f : ℕ → Bool) → Rising (passing n f)
@@ -51,7 +52,7 @@ rising-passing (suc n) f = go (f n) (rising-passing n f)
     go true r =
         rising-append (passing n f) (n ∷ []) r (λ y m. absurd (member-none y m), tt)
         (λ x y m k.
-            ⊎-elim (λ e. omega (arith, passing-member n f x m .0)) (λ k. absurd (member-none y k)) (member-cases y n [] k))
+        ⊎-elim (λ e. omega (arith, passing-member n f x m .0)) (λ k. absurd (member-none y k)) (member-cases y n [] k))
     go false r = rising-append (passing n f) [] r tt (λ x y m k. absurd (member-none y k))
 
 -- and there are as many as pass
@@ -75,9 +76,10 @@ without-member a (x ∷ xs) b m = go (eqb a x) refl (without-member a xs b) m
     go true e f k = let w : T (member b xs) × (b ≡ a → ⊥) = f k in (member-rest b x xs (w .0), w .1)
     go false e f k =
         ⊎-elim
-        (λ i.
-            (subst⁻¹ (λ (y : ℕ). T (member y (x ∷ xs))) i (member-first x xs),
-            λ j. T-not (eqb a x) (false-T (eqb a x) e) (eq-T a x (sym j ∙ i))))
+        (λ i. (
+          subst⁻¹ (λ (y : ℕ). T (member y (x ∷ xs))) i (member-first x xs),
+          λ j. T-not (eqb a x) (false-T (eqb a x) e) (eq-T a x (sym j ∙ i)),
+        ))
         (λ i. let w : T (member b xs) × (b ≡ a → ⊥) = f i in (member-rest b x xs (w .0), w .1))
         (member-cases b x (without a xs) k)
 
@@ -138,10 +140,14 @@ lowest-member f (x ∷ []) h =
 lowest-member f (x ∷ (y ∷ ys)) h =
     let w : (a : ℕ) × T (member a (y ∷ ys)) × ((b : ℕ) → T (member b (y ∷ ys)) → f a ≤ f b) = lowest-member f (y ∷ ys) (omega arith) in
     ⊎-elim
-    (λ l.
-        (x, member-first x (y ∷ ys),
-        λ b m. ⊎-elim (λ e. omega (arith, ap f e)) (λ k. omega (arith, w .2 b k)) (member-cases b x (y ∷ ys) m)))
-    (λ l.
-        (w .0, member-rest (w .0) x (y ∷ ys) (w .1),
-        λ b m. ⊎-elim (λ e. omega (arith, ap f e)) (λ k. w .2 b k) (member-cases b x (y ∷ ys) m)))
+    (λ l. (
+      x,
+      member-first x (y ∷ ys),
+      λ b m. ⊎-elim (λ e. omega (arith, ap f e)) (λ k. omega (arith, w .2 b k)) (member-cases b x (y ∷ ys) m),
+    ))
+    (λ l. (
+      w .0,
+      member-rest (w .0) x (y ∷ ys) (w .1),
+      λ b m. ⊎-elim (λ e. omega (arith, ap f e)) (λ k. w .2 b k) (member-cases b x (y ∷ ys) m),
+    ))
     (below-or-not (f x) (f (w .0)))

@@ -12,7 +12,17 @@ use Rattle.basics.specs.Lists.{word}
 use Rattle.basics.proofs.TestLaws.{tested, or-left, below-or-not, below-suc}
 use Rattle.grammar.specs.Limits.{mostOccurrences}
 use Rattle.grammar.specs.Table.{
-    symbolOf, nonterminal, functions, target, argument, arguments, occurrence, inheritedAt, defining, position, attribute
+  symbolOf,
+  nonterminal,
+  functions,
+  target,
+  argument,
+  arguments,
+  occurrence,
+  inheritedAt,
+  defining,
+  position,
+  attribute,
 }
 use Rattle.grammar.proofs.AcceptedTable.{defining-occurs}
 use Rattle.relations.specs.Paper.{Path⁺}
@@ -22,23 +32,71 @@ use Rattle.sets.specs.Visits.{visits}
 use Rattle.sets.proofs.Visits.{some-visit, visit-inside}
 use Rattle.order.specs.Computed.{besideArc, edp}
 use Rattle.sequences.specs.Actions.{
-    Action, compute, visit, leave, numberOf, decode, mostActions, isAction, actionsOf, visitAt, inheritedOf, synthesizedOf, makes
+  Action,
+  compute,
+  visit,
+  leave,
+  numberOf,
+  decode,
+  mostActions,
+  isAction,
+  actionsOf,
+  visitAt,
+  inheritedOf,
+  synthesizedOf,
+  makes,
 }
 use Rattle.sequences.specs.Follows.{follows}
 use Rattle.sequences.specs.Order.{sequenceOf}
 use Rattle.sequences.specs.Paper.{Earlier}
 use Rattle.sequences.proofs.OrderLaws.{
-    TieRule, order-tie, order-short, order-complete, tie-one, tie-remains, tie-once, tie-after
+  TieRule,
+  order-tie,
+  order-short,
+  order-complete,
+  tie-one,
+  tie-remains,
+  tie-once,
+  tie-after,
 }
 use Rattle.sequences.proofs.ActionLaws.{
-    ChildVisit, LeftLeave, decode-compute, decode-number, decode-injective, number-decode, compute-belongs, belongs-compute,
-    visit-belongs, leave-belongs, belongs-visit, belongs-leave, belongs-action, action-belongs, action-below, member-actions,
-    actions-member, actions-below, actions-rise, at-most-104, inherited-of, synthesized-of, of-inherited, of-synthesized,
-    makes-compute, compute-makes, visit-makes, leave-makes
+  ChildVisit,
+  LeftLeave,
+  decode-compute,
+  decode-number,
+  decode-injective,
+  number-decode,
+  compute-belongs,
+  belongs-compute,
+  visit-belongs,
+  leave-belongs,
+  belongs-visit,
+  belongs-leave,
+  belongs-action,
+  action-belongs,
+  action-below,
+  member-actions,
+  actions-member,
+  actions-below,
+  actions-rise,
+  at-most-104,
+  inherited-of,
+  synthesized-of,
+  of-inherited,
+  of-synthesized,
+  makes-compute,
+  compute-makes,
+  visit-makes,
+  leave-makes,
 }
 use Rattle.grammar.proofs.OccurrenceLaws.{left-defining, child-defining}
 use Rattle.sequences.proofs.FollowsLaws.{
-    visit-after-visit, visit-after-compute, leave-after-leave, leave-after-compute, last-leave-after, compute-after
+  visit-after-visit,
+  visit-after-compute,
+  leave-after-leave,
+  leave-after-compute,
+  last-leave-after,
+  compute-after,
 }
 use Rattle.sequences.proofs.Heights.{Orderly, fits, arc-starts, setAt, set-low}
 use Rattle.sequences.proofs.AlwaysReady.{sequence-whole}
@@ -133,9 +191,11 @@ module _ (g ids s : List ℕ) (r : ℕ) where
     module _ (five : (x : ℕ) → visits s x ≤ 5) where
       pub visit-number : (i n : ℕ) → ChildVisit g s r i n → decode (numberOf (visit i n)) ≡ visit i n
       visit-number i n c =
-          decode-number (visit i n)
-          (omega (arith, c .inside, h .formed .rule r (counts-below g r (h .counts)) .lengthFits), c .first,
-          omega (arith, c .last, five (symbolOf g r i)))
+          decode-number (visit i n) (
+            omega (arith, c .inside, h .formed .rule r (counts-below g r (h .counts)) .lengthFits),
+            c .first,
+            omega (arith, c .last, five (symbolOf g r i)),
+          )
 
       pub leave-number : (n : ℕ) → LeftLeave g s r n → decode (numberOf (leave n)) ≡ leave n
       leave-number n c = decode-number (leave n) (c .first, omega (arith, c .last, five (symbolOf g r 0)))
@@ -153,14 +213,18 @@ module _ (g ids s : List ℕ) (r : ℕ) where
           let b : ChildVisit g s r i (suc n) = visit-there k i (suc n) l d in
           before
           (record {
-              child = b .child; inside = b .inside; nonterminalThere = b .nonterminalThere; first = f; last = omega (arith, b .last)
+            child = b .child;
+            inside = b .inside;
+            nonterminalThere = b .nonterminalThere;
+            first = f;
+            last = omega (arith, b .last);
           })
         where
           before : ChildVisit g s r i n → (p : ℕ) × (p < k) × (decode (actionAt p) ≡ visit i n)
           before c =
               let w : Earlier (sequenceOf g ids s r) k (numberOf (visit i n)) =
-                      stands-after k l (numberOf (visit i n)) (visit-stands i n c)
-                      (visit-after-visit g ids s r (actionAt k) (numberOf (visit i n)) i n d (visit-number i n c)) in
+              stands-after k l (numberOf (visit i n)) (visit-stands i n c)
+              (visit-after-visit g ids s r (actionAt k) (numberOf (visit i n)) i n d (visit-number i n c)) in
               (w .place, w .earlier, ap decode (w .standsThere) ∙ visit-number i n c)
 
       leave-before : (n k : ℕ) → 1 ≤ n → k < size → decode (actionAt k) ≡ leave (suc n)
@@ -171,8 +235,8 @@ module _ (g ids s : List ℕ) (r : ℕ) where
           before : LeftLeave g s r n → (p : ℕ) × (p < k) × (decode (actionAt p) ≡ leave n)
           before c =
               let w : Earlier (sequenceOf g ids s r) k (numberOf (leave n)) =
-                      stands-after k l (numberOf (leave n)) (leave-stands n c)
-                      (leave-after-leave g ids s r (actionAt k) (numberOf (leave n)) n d (leave-number n c)) in
+              stands-after k l (numberOf (leave n)) (leave-stands n c)
+              (leave-after-leave g ids s r (actionAt k) (numberOf (leave n)) n d (leave-number n c)) in
               (w .place, w .earlier, ap decode (w .standsThere) ∙ leave-number n c)
 
       -- "visits to a child and leaves rise": visits of a child rise
@@ -207,11 +271,11 @@ module _ (g ids s : List ℕ) (r : ℕ) where
           let m : size - 1 < size = omega arith in
           ⊎-elim
           (λ q.
-              let u : Earlier (sequenceOf g ids s r) p (actionAt (size - 1)) =
-                      stands-after p l (actionAt (size - 1)) (nothing-else (size - 1) m)
-                      (last-leave-after g ids s r (actionAt p) (actionAt (size - 1)) f
-                      (λ i. omega (arith, each-once p (size - 1) l m i))) in
-              absurd (omega (arith, u .earlier, each-once (u .place) (size - 1) (omega (arith, u .earlier)) m (u .standsThere))))
+          let u : Earlier (sequenceOf g ids s r) p (actionAt (size - 1)) =
+          stands-after p l (actionAt (size - 1)) (nothing-else (size - 1) m)
+          (last-leave-after g ids s r (actionAt p) (actionAt (size - 1)) f
+          (λ i. omega (arith, each-once p (size - 1) l m i))) in
+          absurd (omega (arith, u .earlier, each-once (u .place) (size - 1) (omega (arith, u .earlier)) m (u .standsThere))))
           (λ q. omega arith) (below-or-not p (size - 1))
 
       -- "the last leave ends it"
@@ -221,11 +285,12 @@ module _ (g ids s : List ℕ) (r : ℕ) where
         where
           last : LeftLeave g s r (visits s (symbolOf g r 0))
           last = record { first = some-visit s (symbolOf g r 0); last = omega arith }
+
           go : Earlier (sequenceOf g ids s r) size (numberOf (leave (visits s (symbolOf g r 0))))
               → decode (actionAt (size - 1)) ≡ leave (visits s (symbolOf g r 0))
           go w =
               let f : decode (actionAt (w .place)) ≡ leave (visits s (symbolOf g r 0)) =
-                      ap decode (w .standsThere) ∙ leave-number (visits s (symbolOf g r 0)) last in
+              ap decode (w .standsThere) ∙ leave-number (visits s (symbolOf g r 0)) last in
               subst (λ (p : ℕ). decode (actionAt p) ≡ leave (visits s (symbolOf g r 0))) (last-place (w .place) (w .earlier) f) f
 
       -- an action of the rule makes occurrence a available
@@ -233,19 +298,25 @@ module _ (g ids s : List ℕ) (r : ℕ) where
       Maker a = (e : ℕ) × T (isAction g s r e) × T (makes g s r (decode e) a)
 
       compute-maker : (a : ℕ) → T (defining g r a) → Maker a
-      compute-maker a t =
-          (a, compute-stands a t,
-          subst⁻¹ (λ (x : Action). T (makes g s r x a)) (decode-compute a (defining-fits a t)) (compute-makes g s r a t))
+      compute-maker a t = (
+        a,
+        compute-stands a t,
+        subst⁻¹ (λ (x : Action). T (makes g s r x a)) (decode-compute a (defining-fits a t)) (compute-makes g s r a t),
+      )
 
       leave-maker : (a n : ℕ) → LeftLeave g s r n → T (inheritedOf g s r 0 (suc n) a) → Maker a
-      leave-maker a n c t =
-          (numberOf (leave n), leave-stands n c,
-          subst⁻¹ (λ (x : Action). T (makes g s r x a)) (leave-number n c) (leave-makes g s r n a t))
+      leave-maker a n c t = (
+        numberOf (leave n),
+        leave-stands n c,
+        subst⁻¹ (λ (x : Action). T (makes g s r x a)) (leave-number n c) (leave-makes g s r n a t),
+      )
 
       visit-maker : (a i n : ℕ) → ChildVisit g s r i n → T (synthesizedOf g s r i n a) → Maker a
-      visit-maker a i n c t =
-          (numberOf (visit i n), visit-stands i n c,
-          subst⁻¹ (λ (x : Action). T (makes g s r x a)) (visit-number i n c) (visit-makes g s r i n a (c .nonterminalThere) t))
+      visit-maker a i n c t = (
+        numberOf (visit i n),
+        visit-stands i n c,
+        subst⁻¹ (λ (x : Action). T (makes g s r x a)) (visit-number i n c) (visit-makes g s r i n a (c .nonterminalThere) t),
+      )
 
       -- an attribute belongs to one of its symbol's visits
       pub visit-counts : (a : ℕ) → T (occurrence g r a) → T (nonterminal g (symbolOf g r (position a)))
@@ -259,45 +330,52 @@ module _ (g ids s : List ℕ) (r : ℕ) where
         where
           counted : (1 ≤ visitAt g s r a) × (visitAt g s r a ≤ visits s (symbolOf g r (position a)))
           counted = visit-counts a t n
+
           child : 1 ≤ position a → T (inheritedOf g s r 0 1 a) ⊎ Maker a
           child l =
               ⊎-elim (λ c. inr (compute-maker a (child-defining g r a t l c)))
               (λ c.
-                  inr (visit-maker a (position a) (visitAt g s r a)
-                  (record {
-                      child = l; inside = occurs-inside g r a t; nonterminalThere = n; first = counted .0; last = counted .1
-                  })
-                  (of-synthesized g s r (position a) (visitAt g s r a) a (record { occurs = t; stands = refl; visitIs = refl }) c)))
+              inr (visit-maker a (position a) (visitAt g s r a)
+              (record {
+                child = l;
+                inside = occurs-inside g r a t;
+                nonterminalThere = n;
+                first = counted .0;
+                last = counted .1;
+              })
+              (of-synthesized g s r (position a) (visitAt g s r a) a (record { occurs = t; stands = refl; visitIs = refl }) c)))
               (tested (inheritedAt g r a))
+
           left : position a ≤ 0 → T (inheritedOf g s r 0 1 a) ⊎ Maker a
           left l =
               let p : position a ≡ 0 = omega arith in
               ⊎-elim
               (λ c.
-                  ⊎-elim
-                  (λ k.
-                      inr (leave-maker a (visitAt g s r a - 1)
-                      (record {
-                          first = omega arith;
-                          last = omega (arith, counted .1, ap (λ (j : ℕ). visits s (symbolOf g r j)) p)
-                      })
-                      (of-inherited g s r 0 (suc (visitAt g s r a - 1)) a (record { occurs = t; stands = p; visitIs = omega arith }) c)))
-                  (λ k.
-                      inl (of-inherited g s r 0 1 a (record { occurs = t; stands = p; visitIs = omega (arith, counted .0) }) c))
-                  (below-or-not 1 (visitAt g s r a)))
+              ⊎-elim
+              (λ k.
+              inr (leave-maker a (visitAt g s r a - 1)
+              (record {
+                first = omega arith;
+                last = omega (arith, counted .1, ap (λ (j : ℕ). visits s (symbolOf g r j)) p);
+              })
+              (of-inherited g s r 0 (suc (visitAt g s r a - 1)) a (record { occurs = t; stands = p; visitIs = omega arith }) c)))
+              (λ k.
+              inl (of-inherited g s r 0 1 a (record { occurs = t; stands = p; visitIs = omega (arith, counted .0) }) c))
+              (below-or-not 1 (visitAt g s r a)))
               (λ c. inr (compute-maker a (left-defining g r a t p c)))
               (tested (inheritedAt g r a))
 
       -- where a compute stands, its occurrence is its number
       compute-there : (j o : ℕ) → j < size → decode (actionAt j) ≡ compute o → (actionAt j ≡ o) × T (defining g r o)
-      compute-there j o l d =
-          (sym (number-decode (actionAt j) (action-below g s r (actionAt j) (nothing-else j l))) ∙ ap numberOf d,
-          belongs-compute g s r o (action-belongs g s r (actionAt j) (compute o) d (nothing-else j l)))
+      compute-there j o l d = (
+        sym (number-decode (actionAt j) (action-below g s r (actionAt j) (nothing-else j l))) ∙ ap numberOf d,
+        belongs-compute g s r o (action-belongs g s r (actionAt j) (compute o) d (nothing-else j l)),
+      )
 
       -- what an EDP arc leads from is a terminal's, or available from the start, or some action before the compute makes it so
       pub available-first : (j o a : ℕ) → j < size → decode (actionAt j) ≡ compute o → T (edp g ids s r a o)
           → T (not (nonterminal g (symbolOf g r (position a)))) ⊎ (T (inheritedOf g s r 0 1 a)
-              ⊎ ((e : ℕ) × Earlier (sequenceOf g ids s r) j e × T (makes g s r (decode e) a)))
+          ⊎ ((e : ℕ) × Earlier (sequenceOf g ids s r) j e × T (makes g s r (decode e) a)))
       available-first j o a l d arc =
           let t : T (occurrence g r a) = arc-starts g ids s r h a o arc in
           ⊎-elim (λ n. inr (⊎-elim (λ f. inl f) (λ w. inr (w .0, before (w .0) (w .1) (w .2) t, w .2)) (maker a t n))) (λ n. inl n)
@@ -312,17 +390,17 @@ module _ (g ids s : List ℕ) (r : ℕ) where
               (subst⁻¹ (λ (b : ℕ). T (follows g ids s r b e)) (c .0)
               (compute-after g ids s r o e a (c .1) k (fits g ids s r h a t)
               (λ q.
-                  let z : o ≡ a =
-                          makes-compute g s r o a
-                          (subst (λ (x : Action). T (makes g s r x a)) (ap decode (sym q) ∙ decode-compute o k) m) .1 in
-                  h .acyclic o (Path⁺.one (subst⁻¹ (λ (b : ℕ). T (edp g ids s r b o)) z arc)))
+              let z : o ≡ a =
+              makes-compute g s r o a
+              (subst (λ (x : Action). T (makes g s r x a)) (ap decode (sym q) ∙ decode-compute o k) m) .1 in
+              h .acyclic o (Path⁺.one (subst⁻¹ (λ (b : ℕ). T (edp g ids s r b o)) z arc)))
               m arc))
 
       -- "each compute follows what makes its arguments available"
       pub arguments-first : (j o k i : ℕ) → j < size → decode (actionAt j) ≡ compute o → k < functions g r → target g r k ≡ o
           → i < arguments g r k
           → T (not (nonterminal g (symbolOf g r (position (argument g r k i))))) ⊎ (T (inheritedOf g s r 0 1 (argument g r k i))
-              ⊎ ((e : ℕ) × Earlier (sequenceOf g ids s r) j e × T (makes g s r (decode e) (argument g r k i))))
+          ⊎ ((e : ℕ) × Earlier (sequenceOf g ids s r) j e × T (makes g s r (decode e) (argument g r k i))))
       unfolding edp
       arguments-first j o k i l d f e p =
           available-first j o (argument g r k i) l d

@@ -7,7 +7,14 @@ use lib.Dec.{ltb, leb, eqb}
 use Rattle.basics.specs.Tests.{_and_}
 use Rattle.basics.specs.Lists.{passing}
 use Rattle.grammar.specs.Table.{
-    rightLength, symbolOf, nonterminal, occurrence, inheritedAt, defining, position, attribute
+  rightLength,
+  symbolOf,
+  nonterminal,
+  occurrence,
+  inheritedAt,
+  defining,
+  position,
+  attribute,
 }
 use Rattle.sets.specs.Visits.{visits, visitOf}
 

@@ -10,15 +10,23 @@ use Rattle.grammar.specs.Table.{symbolOf}
 use Rattle.sets.specs.Visits.{visits}
 use Rattle.order.specs.Computed.{edp}
 use Rattle.sequences.specs.Actions.{
-    Action, compute, visit, leave, none, decode, makes, inheritedOf, synthesizedOf
+  Action,
+  compute,
+  visit,
+  leave,
+  none,
+  decode,
+  makes,
+  inheritedOf,
+  synthesizedOf,
 }
 
 -- "an EDP arc links what they make available": from what the earlier makes to what the later makes
 unfoldable pub linked : List ℕ → List ℕ → List ℕ → ℕ → Action → Action → Bool
 linked g ids s r later earlier =
     some mostOccurrences (λ b.
-        makes g s r later b
-        and some mostOccurrences (λ a. makes g s r earlier a and edp g ids s r a b))
+    makes g s r later b
+    and some mostOccurrences (λ a. makes g s r earlier a and edp g ids s r a b))
 
 -- "visit r follows visit r - 1 and the computes of the child's inherited attributes of that visit"
 unfoldable pub beforeVisit : List ℕ → List ℕ → ℕ → ℕ → ℕ → Action → Bool

@@ -17,7 +17,16 @@ use Rattle.bits.proofs.LowestLaws.{lowest-is, lowest-unique, bit-under-lowest}
 use Rattle.bits.proofs.SetLaws.{remove-less}
 use Rattle.bits.proofs.CollectLaws.{collect-lt}
 use Rattle.bits.proofs.MemberLaws.{
-    hasb-collect, hasb-ext, has-not, has-other, none-left, union-cases, union-left, union-right, minus-both, both-minus
+  hasb-collect,
+  hasb-ext,
+  has-not,
+  has-other,
+  none-left,
+  union-cases,
+  union-left,
+  union-right,
+  minus-both,
+  both-minus,
 }
 use Rattle.bits.proofs.RestLaws.{rest-of}
 use Rattle.sets.specs.Visits.{visits}

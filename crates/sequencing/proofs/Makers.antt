@@ -18,12 +18,31 @@ use Rattle.sets.proofs.Visits.{number-to-last}
 use Rattle.order.specs.Computed.{edp}
 use Rattle.sequences.specs.Actions.{Action, decode, isAction, visitAt, inheritedOf, synthesizedOf, makes}
 use Rattle.sequences.proofs.ActionLaws.{
-    ActionIs, computes, visitsChild, leaves, action-is, inherited-of, synthesized-of, of-inherited, of-synthesized, makes-compute,
-    makes-visit, makes-leave
+  ActionIs,
+  computes,
+  visitsChild,
+  leaves,
+  action-is,
+  inherited-of,
+  synthesized-of,
+  of-inherited,
+  of-synthesized,
+  makes-compute,
+  makes-visit,
+  makes-leave,
 }
 use Rattle.grammar.proofs.OccurrenceLaws.{defining-left, defining-child}
 use Rattle.sequences.proofs.Heights.{
-    Orderly, setAt, symbol-fits, left-nonterminal, BesideArc, beside-find, set-even, set-odd, set-inherited, set-synthesized
+  Orderly,
+  setAt,
+  symbol-fits,
+  left-nonterminal,
+  BesideArc,
+  beside-find,
+  set-even,
+  set-odd,
+  set-inherited,
+  set-synthesized,
 }
 
 -- o is an attribute of a nonterminal in the rule
@@ -49,15 +68,15 @@ module _ (g ids s : List ℕ) (r : ℕ) where
   made-by e o (visitsChild k n l q i d w) t =
       let v = synthesized-of g s r k n o (makes-visit g s r k n o (subst (λ (x : Action). T (makes g s r x o)) d t) .1) in
       let z : makerOf o ≡ 63 + 8 * position o + visitAt g s r o =
-              not-defining o (λ f. T-not (inheritedAt g r o) (v .1) (defining-child g r o f (omega (arith, v .0 .stands, w .child))))
-              ∙ passed-over (eqb (position o) 0) _ _
-              (not-T (eqb (position o) 0) (λ f. let y : position o ≡ 0 = eqb→eq (position o) 0 f in omega (arith, v .0 .stands, w .child))) in
+      not-defining o (λ f. T-not (inheritedAt g r o) (v .1) (defining-child g r o f (omega (arith, v .0 .stands, w .child))))
+      ∙ passed-over (eqb (position o) 0) _ _
+      (not-T (eqb (position o) 0) (λ f. let y : position o ≡ 0 = eqb→eq (position o) 0 f in omega (arith, v .0 .stands, w .child))) in
       omega (arith, v .0 .stands, v .0 .visitIs, w .first)
   made-by e o (leaves n q i d w) t =
       let v = inherited-of g s r 0 (suc n) o (makes-leave g s r n o (subst (λ (x : Action). T (makes g s r x o)) d t)) in
       let z : makerOf o ≡ 126 + visitAt g s r o =
-              not-defining o (λ f. T-not (inheritedAt g r o) (defining-left g r o f (v .0 .stands)) (v .1))
-              ∙ chosen (eqb (position o) 0) _ _ (eq-T (position o) 0 (v .0 .stands)) in
+      not-defining o (λ f. T-not (inheritedAt g r o) (defining-left g r o f (v .0 .stands)) (v .1))
+      ∙ chosen (eqb (position o) 0) _ _ (eq-T (position o) 0 (v .0 .stands)) in
       omega (arith, v .0 .visitIs, w .first)
 
   -- one action makes it available
@@ -72,23 +91,23 @@ module _ (g ids s : List ℕ) (r : ℕ) where
     inherits o t i =
         ⊎-elim (λ n. n)
         (λ n.
-            let f = h .formed .symbol (symbolOf g r (position o)) (symbol-fits g ids s r h o t) in
-            let k : kind g (symbolOf g r (position o)) ≡ 1 =
-                    ⊎-elim (λ z. absurd (T-not (nonterminal g (symbolOf g r (position o))) n (eq-T _ _ z))) (λ z. omega (arith, f .kindFits))
-                    (same-or-not (kind g (symbolOf g r (position o))) 0) in
-            absurd (T-not (hasb (attribute o) 0) (none-left (attribute o))
-            (subst (λ (m : ℕ). T (hasb (attribute o) m)) (f .terminalMask k) i)))
+        let f = h .formed .symbol (symbolOf g r (position o)) (symbol-fits g ids s r h o t) in
+        let k : kind g (symbolOf g r (position o)) ≡ 1 =
+        ⊎-elim (λ z. absurd (T-not (nonterminal g (symbolOf g r (position o))) n (eq-T _ _ z))) (λ z. omega (arith, f .kindFits))
+        (same-or-not (kind g (symbolOf g r (position o))) 0) in
+        absurd (T-not (hasb (attribute o) 0) (none-left (attribute o))
+        (subst (λ (m : ℕ). T (hasb (attribute o) m)) (f .terminalMask k) i)))
         (tested (nonterminal g (symbolOf g r (position o))))
 
     -- what is computed is an attribute of a nonterminal
     pub defining-attribute : (o : ℕ) → T (defining g r o) → Attribute g r o
     defining-attribute o t =
         record {
-            occurs = defining-occurs g r o t;
-            there =
-                ⊎-elim (λ p. inherits o (defining-occurs g r o t) (defining-child g r o t p))
-                (λ p. subst⁻¹ (λ (j : ℕ). T (nonterminal g (symbolOf g r j))) (omega arith) (left-nonterminal g ids s r h))
-                (below-or-not 0 (position o))
+          occurs = defining-occurs g r o t;
+          there =
+              ⊎-elim (λ p. inherits o (defining-occurs g r o t) (defining-child g r o t p))
+              (λ p. subst⁻¹ (λ (j : ℕ). T (nonterminal g (symbolOf g r j))) (omega arith) (left-nonterminal g ids s r h))
+              (below-or-not 0 (position o));
         }
 
     -- what an action makes available is one
@@ -104,8 +123,8 @@ module _ (g ids s : List ℕ) (r : ℕ) where
         go (leaves n q i d w) =
             let v = inherited-of g s r 0 (suc n) o (makes-leave g s r n o (subst (λ (x : Action). T (makes g s r x o)) d t)) .0 in
             record {
-                occurs = v .occurs;
-                there = subst⁻¹ (λ (j : ℕ). T (nonterminal g (symbolOf g r j))) (v .stands) (left-nonterminal g ids s r h)
+              occurs = v .occurs;
+              there = subst⁻¹ (λ (j : ℕ). T (nonterminal g (symbolOf g r j))) (v .stands) (left-nonterminal g ids s r h);
             }
 
     -- every EDP arc leads to one
@@ -114,11 +133,11 @@ module _ (g ids s : List ℕ) (r : ℕ) where
     arc-goal a b t =
         ⊎-elim (λ u. defining-attribute b (dp-target g (h .formed) r a b (h .counts) (dp-sound g r a b u)))
         (λ u.
-            let w : BesideArc g ids s r a b = beside-find g ids s r a b u in
-            record {
-                occurs = w .goal;
-                there = subst (λ (j : ℕ). T (nonterminal g (symbolOf g r j))) (w .same) (w .nonterminalThere)
-            })
+        let w : BesideArc g ids s r a b = beside-find g ids s r a b u in
+        record {
+          occurs = w .goal;
+          there = subst (λ (j : ℕ). T (nonterminal g (symbolOf g r j))) (w .same) (w .nonterminalThere);
+        })
         (or-cases _ _ t)
 
     -- no set is higher than twice the visits
@@ -167,15 +186,23 @@ module _ (g ids s : List ℕ) (r : ℕ) where
       where
         made : Attribute g r o
         made = made-attribute e o a t
+
         go : ActionIs g s r e → ⊥
         go (computes q l i d w) =
             T-not (inheritedAt g r o)
             (defining-left g r o (makes-compute g s r q o (subst (λ (x : Action). T (makes g s r x o)) d t) .0) p)
             (even-set-inherited o made (omega arith))
         go (visitsChild j n l q i d w) =
-            omega (arith, w .child,
-            synthesized-of g s r j n o (makes-visit g s r j n o (subst (λ (x : Action). T (makes g s r x o)) d t) .1) .0 .stands)
+            omega (
+              arith,
+              w .child,
+              synthesized-of g s r j n o (makes-visit g s r j n o (subst (λ (x : Action). T (makes g s r x o)) d t) .1) .0 .stands,
+            )
         go (leaves n q i d w) =
-            omega (arith, w .first, w .last,
-            visit-even 0 (suc n) o (left-nonterminal g ids s r h)
-            (makes-leave g s r n o (subst (λ (x : Action). T (makes g s r x o)) d t)))
+            omega (
+              arith,
+              w .first,
+              w .last,
+              visit-even 0 (suc n) o (left-nonterminal g ids s r h)
+                  (makes-leave g s r n o (subst (λ (x : Action). T (makes g s r x o)) d t)),
+            )

@@ -58,11 +58,13 @@ passing-less (suc n) before left a w =
         here false = refl
     alone true false e = refl
     alone false false e = refl
+
     same : n ≡ a → cond (left n) (n ∷ []) [] ≡ without a (cond (before n) (n ∷ []) [])
     same q =
         ap (λ (b : Bool). cond b (n ∷ []) [])
         (T-false (left n) (not-T (left n) (λ t. w .gone (subst (λ (k : ℕ). T (left k)) q t))))
         ∙ sym (alone true (before n) (T-true (eqb a n) (eq-T a n (sym q))))
+
     other : (n ≡ a → ⊥) → cond (left n) (n ∷ []) [] ≡ without a (cond (before n) (n ∷ []) [])
     other q =
         ap (λ (b : Bool). cond b (n ∷ []) []) (w .others n q)
@@ -79,14 +81,14 @@ module _ (after : ℕ → ℕ → Bool) (before left : ℕ → Bool) (a : ℕ) (
   first-is m (found k t f) =
       ⊎-elim
       (λ l.
-          absurd (lowest m l (passing-member actionNumbers before m k .1)
-          (λ b u v. ready-use after (remaining before) m t b (member-passing actionNumbers before b (numbers b u) u) v)))
+      absurd (lowest m l (passing-member actionNumbers before m k .1)
+      (λ b u v. ready-use after (remaining before) m t b (member-passing actionNumbers before b (numbers b u) u) v)))
       (λ l.
-          ⊎-elim
-          (λ q.
-              absurd (f a (member-passing actionNumbers before a (numbers a there) there) q
-              (ready-intro after (remaining before) a (λ b u v. free b (passing-member actionNumbers before b u .1) v))))
-          (λ q. omega arith) (below-or-not a m)) (below-or-not m a)
+      ⊎-elim
+      (λ q.
+      absurd (f a (member-passing actionNumbers before a (numbers a there) there) q
+      (ready-intro after (remaining before) a (λ b u v. free b (passing-member actionNumbers before b u .1) v))))
+      (λ q. omega arith) (below-or-not a m)) (below-or-not m a)
   first-is m (nothing e f) =
       absurd (f a (member-passing actionNumbers before a (numbers a there) there)
       (ready-intro after (remaining before) a (λ b u v. free b (passing-member actionNumbers before b u .1) v)))
@@ -130,24 +132,24 @@ module _ (g ids s : List ℕ) (r : ℕ) (before : ℕ → Bool) (w : ℕ) (going
   goes-on : Going g ids s r left v
   goes-on =
       record {
-          actions = λ b t. going .actions b (was b t);
-          done = λ b c i t f.
-              stays b (going .done b c i (was c t) f)
-              (λ e. free c (was c t) (subst (λ (k : ℕ). T (follows g ids s r k c)) e f));
-          waits = λ o t.
-              let k = still o t in
-              let e = going .waits o (k .0) in
-              (e .0, stays (e .0) (e .1) (λ q. k .1 (subst (λ (x : ℕ). T (makes g s r (decode x) o)) q (e .2))), e .2);
-          makers = λ e o t m.
-              kept o (going .makers e o (was e t) m)
-              (λ n. differs e t (one-maker g ids s r e a o (going .actions e (was e t)) (going .actions a there) m n))
+        actions = λ b t. going .actions b (was b t);
+        done = λ b c i t f.
+            stays b (going .done b c i (was c t) f)
+            (λ e. free c (was c t) (subst (λ (k : ℕ). T (follows g ids s r k c)) e f));
+        waits = λ o t.
+            let k = still o t in
+            let e = going .waits o (k .0) in
+            (e .0, stays (e .0) (e .1) (λ q. k .1 (subst (λ (x : ℕ). T (makes g s r (decode x) o)) q (e .2))), e .2);
+        makers = λ e o t m.
+            kept o (going .makers e o (was e t) m)
+            (λ n. differs e t (one-maker g ids s r e a o (going .actions e (was e t)) (going .actions a there) m n));
       }
 
   pub taken : Taken g ids s r before a left v
   taken =
       record {
-          number = action-below g s r a (going .actions a there);
-          next = takes-first (λ a b. follows g ids s r a b) before left a (λ b t. action-below g s r b (going .actions b t)) there free lowest less;
-          fewer = takes-one (λ a b. follows g ids s r a b) before left a (λ b t. action-below g s r b (going .actions b t)) there free lowest less;
-          going = goes-on
+        number = action-below g s r a (going .actions a there);
+        next = takes-first (λ a b. follows g ids s r a b) before left a (λ b t. action-below g s r b (going .actions b t)) there free lowest less;
+        fewer = takes-one (λ a b. follows g ids s r a b) before left a (λ b t. action-below g s r b (going .actions b t)) there free lowest less;
+        going = goes-on;
       }

@@ -19,20 +19,55 @@ use Rattle.order.specs.Computed.{edp, edpPath}
 use Rattle.sequences.specs.Actions.{Action, visit, leave, numberOf, decode, visitAt, inheritedOf, synthesizedOf, makes}
 use Rattle.sequences.specs.Follows.{follows, besides, beforeVisit}
 use Rattle.sequences.proofs.ActionLaws.{
-    ChildVisit, LeftLeave, ActionIs, computes, visitsChild, leaves, action-is, OfVisit, inherited-of, synthesized-of, of-inherited,
-    decode-compute, makes-compute, makes-visit, makes-leave, compute-makes
+  ChildVisit,
+  LeftLeave,
+  ActionIs,
+  computes,
+  visitsChild,
+  leaves,
+  action-is,
+  OfVisit,
+  inherited-of,
+  synthesized-of,
+  of-inherited,
+  decode-compute,
+  makes-compute,
+  makes-visit,
+  makes-leave,
+  compute-makes,
 }
 use Rattle.grammar.proofs.OccurrenceLaws.{defining-left, defining-child, child-defining}
 use Rattle.sequences.proofs.FollowsLaws.{
-    Linked, follows-cases, follows-linked, visit-after-visit, visit-after-compute, leave-after-leave, compute-after
+  Linked,
+  follows-cases,
+  follows-linked,
+  visit-after-visit,
+  visit-after-compute,
+  leave-after-leave,
+  compute-after,
 }
 use Rattle.sequences.proofs.Heights.{Orderly, setAt, fits, left-nonterminal, arc-starts, arc-beside, beside-down}
 use Rattle.sequences.proofs.SequenceLaws.{
-    Maker, maker, compute-stands, visit-number, leave-number, visit-stands, leave-stands, visit-counts
+  Maker,
+  maker,
+  compute-stands,
+  visit-number,
+  leave-number,
+  visit-stands,
+  leave-stands,
+  visit-counts,
 }
 use Rattle.sequencing.specs.Going.{Going}
 use Rattle.sequencing.proofs.Makers.{
-    Attribute, one-maker, made-attribute, arc-goal, set-high, even-of-visit, visit-even, visit-odd, first-unmade
+  Attribute,
+  one-maker,
+  made-attribute,
+  arc-goal,
+  set-high,
+  even-of-visit,
+  visit-even,
+  visit-odd,
+  first-unmade,
 }
 
 -- the odd set of a visit is not higher than that of an earlier one
@@ -59,29 +94,42 @@ module _ (g ids s : List ℕ) (r : ℕ) (h : Orderly g ids s r) (five : (x : ℕ
     where
       goal : Attribute g r z
       goal = arc-goal g ids s r h y z arc
+
       e : (e : ℕ) × T (left e) × T (makes g s r (decode e) y)
       e = going .waits y t
+
       made : Maker g ids s r h five z → ⊥
       made m =
           n (going .makers (m .0) z
           (⊎-elim (λ q. subst⁻¹ (λ (x : ℕ). T (left x)) q (e .1))
           (λ q.
-              going .done (m .0) (e .0) (m .1) (e .1)
-              (follows-linked g ids s r (m .0) (e .0) q
-              (record {
-                  source = y; goal = z; sourceFits = fits g ids s r h y (arc-starts g ids s r h y z arc);
-                  goalFits = fits g ids s r h z (goal .occurs); sourceMade = e .2; goalMade = m .2; arc = arc
-              })))
+          going .done (m .0) (e .0) (m .1) (e .1)
+          (follows-linked g ids s r (m .0) (e .0) q
+          (record {
+            source = y;
+            goal = z;
+            sourceFits = fits g ids s r h y (arc-starts g ids s r h y z arc);
+            goalFits = fits g ids s r h z (goal .occurs);
+            sourceMade = e .2;
+            goalMade = m .2;
+            arc = arc;
+          })))
           (same-or-not (m .0) (e .0))) (m .2))
+
       first : T (inheritedOf g s r 0 1 z) → ⊥
       first i =
           let v = inherited-of g s r 0 1 z i in
           let u = arc-beside g ids s r h y z arc
-                  (λ q. T-not (inheritedAt g r z) (defining-left g r z q (v .0 .stands)) (v .1)) in
+          (λ q. T-not (inheritedAt g r z) (defining-left g r z q (v .0 .stands)) (v .1)) in
           let p : position y ≡ 0 = u .same ∙ v .0 .stands in
           first-unmade g ids s r h (e .0) y (going .actions (e .0) (e .1)) (e .2) p
-          (omega (arith, beside-down g ids s r h y z u, visit-even g ids s r h 0 1 z (left-nonterminal g ids s r h) i,
-          set-high g ids s r h y, ap (λ (j : ℕ). visits s (symbolOf g r j)) p))
+          (omega (
+            arith,
+            beside-down g ids s r h y z u,
+            visit-even g ids s r h 0 1 z (left-nonterminal g ids s r h) i,
+            set-high g ids s r h y,
+            ap (λ (j : ℕ). visits s (symbolOf g r j)) p,
+          ))
 
   path-back : {x z : ℕ} → Path⁺ (λ a b. T (edp g ids s r a b)) x z → (T (hasb z w) → ⊥) → T (hasb x w) → ⊥
   path-back {x} {z} (Path⁺.one t) n = back x z t n
@@ -95,9 +143,9 @@ module _ (g ids s : List ℕ) (r : ℕ) (h : Orderly g ids s r) (five : (x : ℕ
       f (e .0) (e .1)
       (compute-after g ids s r o (e .0) y d k (fits g ids s r h y (arc-starts g ids s r h y o arc))
       (λ q.
-          let z : o ≡ y =
-                  makes-compute g s r o y (subst (λ (x : Action). T (makes g s r x y)) (ap decode (sym q) ∙ decode-compute o k) (e .2)) .1 in
-          h .acyclic o (Path⁺.one (subst⁻¹ (λ (x : ℕ). T (edp g ids s r x o)) z arc)))
+      let z : o ≡ y =
+      makes-compute g s r o y (subst (λ (x : Action). T (makes g s r x y)) (ap decode (sym q) ∙ decode-compute o k) (e .2)) .1 in
+      h .acyclic o (Path⁺.one (subst⁻¹ (λ (x : ℕ). T (edp g ids s r x o)) z arc)))
       (e .2) arc)
 
   pub free-quiet : (o : ℕ) → T (defining g r o) → Free o → Quiet o
@@ -116,11 +164,11 @@ module _ (g ids s : List ℕ) (r : ℕ) (h : Orderly g ids s r) (five : (x : ℕ
   quiet-free o d k q b l f =
       ⊎-elim
       (λ u.
-          let e : o ≡ u .goal =
-                  makes-compute g s r o (u .goal) (subst (λ (x : Action). T (makes g s r x (u .goal))) (decode-compute o k) (u .goalMade)) .1 in
-          q (u .source) (going .makers b (u .source) l (u .sourceMade))
-          (path-arc (λ a b. edp g ids s r a b) (occurrences g r) (u .source) o
-          (subst⁻¹ (λ (x : ℕ). T (edp g ids s r (u .source) x)) e (u .arc))))
+      let e : o ≡ u .goal =
+      makes-compute g s r o (u .goal) (subst (λ (x : Action). T (makes g s r x (u .goal))) (decode-compute o k) (u .goalMade)) .1 in
+      q (u .source) (going .makers b (u .source) l (u .sourceMade))
+      (path-arc (λ a b. edp g ids s r a b) (occurrences g r) (u .source) o
+      (subst⁻¹ (λ (x : ℕ). T (edp g ids s r (u .source) x)) e (u .arc))))
       (λ u. subst (λ (x : Action). T (besides g s r x (decode b))) (decode-compute o k) u)
       (follows-cases g ids s r o b f .1)
 
@@ -128,7 +176,11 @@ module _ (g ids s : List ℕ) (r : ℕ) (h : Orderly g ids s r) (five : (x : ℕ
   earlier-visit : (i n : ℕ) → 1 ≤ n → ChildVisit g s r i (suc n) → ChildVisit g s r i n
   earlier-visit i n l c =
       record {
-          child = c .child; inside = c .inside; nonterminalThere = c .nonterminalThere; first = l; last = omega (arith, c .last)
+        child = c .child;
+        inside = c .inside;
+        nonterminalThere = c .nonterminalThere;
+        first = l;
+        last = omega (arith, c .last);
       }
 
   later-visits : (i m n : ℕ) → 1 ≤ m → m ≤ n → ChildVisit g s r i n → T (left (numberOf (visit i m))) → T (left (numberOf (visit i n)))
@@ -136,11 +188,11 @@ module _ (g ids s : List ℕ) (r : ℕ) (h : Orderly g ids s r) (five : (x : ℕ
   later-visits i m (suc n) l k c t =
       ⊎-elim
       (λ q.
-          let c′ = earlier-visit i n (omega arith) c in
-          going .done (numberOf (visit i (suc n))) (numberOf (visit i n)) (visit-stands g ids s r h five i (suc n) c)
-          (later-visits i m n l (omega arith) c′ t)
-          (visit-after-visit g ids s r (numberOf (visit i (suc n))) (numberOf (visit i n)) i n (visit-number g ids s r h five i (suc n) c)
-          (visit-number g ids s r h five i n c′)))
+      let c′ = earlier-visit i n (omega arith) c in
+      going .done (numberOf (visit i (suc n))) (numberOf (visit i n)) (visit-stands g ids s r h five i (suc n) c)
+      (later-visits i m n l (omega arith) c′ t)
+      (visit-after-visit g ids s r (numberOf (visit i (suc n))) (numberOf (visit i n)) i n (visit-number g ids s r h five i (suc n) c)
+      (visit-number g ids s r h five i n c′)))
       (λ q. subst (λ (x : ℕ). T (left (numberOf (visit i x)))) q t) (below-suc m (suc n) (omega arith))
 
   -- visit n of child i is the next one of it, and none of the attributes that it takes along waits
@@ -152,23 +204,23 @@ module _ (g ids s : List ℕ) (r : ℕ) (h : Orderly g ids s r) (five : (x : ℕ
   free-visit i zero c f = absurd (omega (arith, c .first))
   free-visit i (suc n) c f =
       record {
-          next = λ m l k t.
-              let c′ = earlier-visit i n (omega arith) c in
-              f (numberOf (visit i n)) (later-visits i m n l (omega arith) c′ t)
-              (visit-after-visit g ids s r (numberOf (visit i (suc n))) (numberOf (visit i n)) i n (visit-number g ids s r h five i (suc n) c)
-              (visit-number g ids s r h five i n c′));
-          handed = λ o t p k.
-              let a = waits-attribute o t in
-              let i′ : T (inheritedOf g s r i (suc n) o) = even-of-visit g ids s r h i (suc n) o a p (omega arith) (c .last) k in
-              let d : T (defining g r o) =
-                      child-defining g r o (a .occurs) (omega (arith, c .child)) (inherited-of g s r i (suc n) o i′ .1) in
-              let l : o < mostOccurrences = fits g ids s r h o (a .occurs) in
-              let e = going .waits o t in
-              let q : e .0 ≡ o =
-                      one-maker g ids s r (e .0) o o (going .actions (e .0) (e .1)) (compute-stands g ids s r h o d) (e .2)
-                      (subst⁻¹ (λ (x : Action). T (makes g s r x o)) (decode-compute o l) (compute-makes g s r o d)) in
-              f o (subst (λ (x : ℕ). T (left x)) q (e .1))
-              (visit-after-compute g ids s r (numberOf (visit i (suc n))) i (suc n) o (visit-number g ids s r h five i (suc n) c) l i′)
+        next = λ m l k t.
+            let c′ = earlier-visit i n (omega arith) c in
+            f (numberOf (visit i n)) (later-visits i m n l (omega arith) c′ t)
+            (visit-after-visit g ids s r (numberOf (visit i (suc n))) (numberOf (visit i n)) i n (visit-number g ids s r h five i (suc n) c)
+            (visit-number g ids s r h five i n c′));
+        handed = λ o t p k.
+            let a = waits-attribute o t in
+            let i′ : T (inheritedOf g s r i (suc n) o) = even-of-visit g ids s r h i (suc n) o a p (omega arith) (c .last) k in
+            let d : T (defining g r o) =
+            child-defining g r o (a .occurs) (omega (arith, c .child)) (inherited-of g s r i (suc n) o i′ .1) in
+            let l : o < mostOccurrences = fits g ids s r h o (a .occurs) in
+            let e = going .waits o t in
+            let q : e .0 ≡ o =
+            one-maker g ids s r (e .0) o o (going .actions (e .0) (e .1)) (compute-stands g ids s r h o d) (e .2)
+            (subst⁻¹ (λ (x : Action). T (makes g s r x o)) (decode-compute o l) (compute-makes g s r o d)) in
+            f o (subst (λ (x : ℕ). T (left x)) q (e .1))
+            (visit-after-compute g ids s r (numberOf (visit i (suc n))) i (suc n) o (visit-number g ids s r h five i (suc n) c) l i′);
       }
 
   module _ (i n : ℕ) (c : ChildVisit g s r i n) (ready : VisitReady i n) where
@@ -177,26 +229,30 @@ module _ (g ids s : List ℕ) (r : ℕ) (h : Orderly g ids s r) (five : (x : ℕ
     no-compute o t d p l =
         let k : o < mostOccurrences = fits g ids s r h o (Rattle.grammar.proofs.AcceptedTable.defining-occurs g r o d) in
         let made : T (makes g s r (decode o) o) =
-                subst⁻¹ (λ (x : Action). T (makes g s r x o)) (decode-compute o k) (compute-makes g s r o d) in
+        subst⁻¹ (λ (x : Action). T (makes g s r x o)) (decode-compute o k) (compute-makes g s r o d) in
         let a : Attribute g r o = made-attribute g ids s r h o o (going .actions o t) made in
         let u : T (inheritedAt g r o) = defining-child g r o d (omega (arith, c .child)) in
         let v = visit-counts g ids s r h five o (a .occurs) (a .there) in
         let j : T (inheritedOf g s r i (visitAt g s r o) o) =
-                of-inherited g s r i (visitAt g s r o) o (record { occurs = a .occurs; stands = p; visitIs = refl }) u in
+        of-inherited g s r i (visitAt g s r o) o (record { occurs = a .occurs; stands = p; visitIs = refl }) u in
         ⊎-elim
         (λ q.
-            let c′ : ChildVisit g s r i (visitAt g s r o) =
-                    record {
-                        child = c .child; inside = c .inside; nonterminalThere = c .nonterminalThere; first = v .0; last = omega (arith, c .last)
-                    } in
-            ready .next (visitAt g s r o) (v .0) q
-            (going .done (numberOf (visit i (visitAt g s r o))) o (visit-stands g ids s r h five i (visitAt g s r o) c′) t
-            (visit-after-compute g ids s r (numberOf (visit i (visitAt g s r o))) i (visitAt g s r o) o
-            (visit-number g ids s r h five i (visitAt g s r o) c′) k j)))
+        let c′ : ChildVisit g s r i (visitAt g s r o) =
+        record {
+          child = c .child;
+          inside = c .inside;
+          nonterminalThere = c .nonterminalThere;
+          first = v .0;
+          last = omega (arith, c .last);
+        } in
+        ready .next (visitAt g s r o) (v .0) q
+        (going .done (numberOf (visit i (visitAt g s r o))) o (visit-stands g ids s r h five i (visitAt g s r o) c′) t
+        (visit-after-compute g ids s r (numberOf (visit i (visitAt g s r o))) i (visitAt g s r o) o
+        (visit-number g ids s r h five i (visitAt g s r o) c′) k j)))
         (λ q.
-            let z : visitAt g s r o ≡ n = omega arith in
-            ready .handed o (going .makers o o t made) p
-            (visit-even g ids s r h i n o (c .nonterminalThere) (subst (λ (m : ℕ). T (inheritedOf g s r i m o)) z j)))
+        let z : visitAt g s r o ≡ n = omega arith in
+        ready .handed o (going .makers o o t made) p
+        (visit-even g ids s r h i n o (c .nonterminalThere) (subst (λ (m : ℕ). T (inheritedOf g s r i m o)) z j)))
         (below-or-not (visitAt g s r o) n)
 
     pub ready-visit : Free (numberOf (visit i n))
@@ -205,31 +261,40 @@ module _ (g ids s : List ℕ) (r : ℕ) (h : Orderly g ids s r) (five : (x : ℕ
       where
         number : decode (numberOf (visit i n)) ≡ visit i n
         number = visit-number g ids s r h five i n c
+
         linked : Linked g ids s r (decode (numberOf (visit i n))) (decode b) → ActionIs g s r b → (numberOf (visit i n) ≡ b → ⊥) → ⊥
         linked u x differs = go₂ x
           where
             goal : T (synthesizedOf g s r i n (u .goal))
             goal = makes-visit g s r i n (u .goal) (subst (λ (x : Action). T (makes g s r x (u .goal))) number (u .goalMade)) .1
+
             v : OfVisit g s r i n (u .goal) × T (not (inheritedAt g r (u .goal)))
             v = synthesized-of g s r i n (u .goal) goal
+
             beside : Rattle.sequences.proofs.Heights.BesideArc g ids s r (u .source) (u .goal)
             beside =
                 arc-beside g ids s r h (u .source) (u .goal) (u .arc)
                 (λ q. T-not (inheritedAt g r (u .goal)) (v .1) (defining-child g r (u .goal) q (omega (arith, c .child, v .0 .stands))))
+
             place : position (u .source) ≡ i
             place = beside .same ∙ v .0 .stands
+
             high : 2 * (visits s (symbolOf g r i) + 1 - n) - 1 ≤ setAt g ids s r (u .source)
             high =
-                omega (arith, beside-down g ids s r h (u .source) (u .goal) beside,
-                visit-odd g ids s r h i n (u .goal) (c .nonterminalThere) goal)
+                omega (
+                  arith,
+                  beside-down g ids s r h (u .source) (u .goal) beside,
+                  visit-odd g ids s r h i n (u .goal) (c .nonterminalThere) goal,
+                )
+
             go₂ : ActionIs g s r b → ⊥
             go₂ (computes o l e d m) =
                 let k = makes-compute g s r o (u .source) (subst (λ (x : Action). T (makes g s r x (u .source))) d (u .sourceMade)) in
                 let y : b ≡ u .source = e ∙ k .1 in
                 let z : T (inheritedOf g s r i (visitAt g s r (u .source)) (u .source)) =
-                        of-inherited g s r i (visitAt g s r (u .source)) (u .source)
-                        (record { occurs = beside .source; stands = place; visitIs = refl })
-                        (defining-child g r (u .source) (k .0) (omega (arith, c .child, place))) in
+                of-inherited g s r i (visitAt g s r (u .source)) (u .source)
+                (record { occurs = beside .source; stands = place; visitIs = refl })
+                (defining-child g r (u .source) (k .0) (omega (arith, c .child, place))) in
                 no-compute (u .source) (subst (λ (x : ℕ). T (left x)) y t) (k .0) place
                 (omega (arith, high, c .last, visit-even g ids s r h i (visitAt g s r (u .source)) (u .source) (c .nonterminalThere) z))
             go₂ (visitsChild j m l q e d x) =
@@ -239,13 +304,18 @@ module _ (g ids s : List ℕ) (r : ℕ) (h : Orderly g ids s r) (five : (x : ℕ
                 let lower : m ≤ n = not-later (visits s (symbolOf g r j)) (visits s (symbolOf g r i)) m n (setAt g ids s r (u .source)) (ap (λ (p : ℕ). visits s (symbolOf g r p)) y) z high (c .last) in
                 ⊎-elim
                 (λ p.
-                    ready .next m (x .first) p
-                    (subst (λ (p : ℕ). T (left (numberOf (visit p m)))) y (subst (λ (p : ℕ). T (left p)) e t)))
+                ready .next m (x .first) p
+                (subst (λ (p : ℕ). T (left (numberOf (visit p m)))) y (subst (λ (p : ℕ). T (left p)) e t)))
                 (λ p. differs (omega arith)) (below-or-not m n)
             go₂ (leaves m q e d x) =
-                omega (arith, c .child, place,
-                inherited-of g s r 0 (suc m) (u .source)
-                (makes-leave g s r m (u .source) (subst (λ (x : Action). T (makes g s r x (u .source))) d (u .sourceMade))) .0 .stands)
+                omega (
+                  arith,
+                  c .child,
+                  place,
+                  inherited-of g s r 0 (suc m) (u .source)
+                      (makes-leave g s r m (u .source) (subst (λ (x : Action). T (makes g s r x (u .source))) d (u .sourceMade))) .0 .stands,
+                )
+
         besides₂ : ActionIs g s r b → T (beforeVisit g s r i n (decode b)) → ⊥
         besides₂ (computes o l e d m) u =
             let v = inherited-of g s r i n o (subst (λ (x : Action). T (beforeVisit g s r i n x)) d u) in
@@ -257,6 +327,7 @@ module _ (g ids s : List ℕ) (r : ℕ) (h : Orderly g ids s r) (five : (x : ℕ
             ready .next m (x .first) (omega arith)
             (subst (λ (p : ℕ). T (left (numberOf (visit p m)))) y (subst (λ (p : ℕ). T (left p)) e t))
         besides₂ (leaves m q e d x) u = subst (λ (x : Action). T (beforeVisit g s r i n x)) d u
+
         go : ActionIs g s r b
             → (numberOf (visit i n) ≡ b → ⊥) × (Linked g ids s r (decode (numberOf (visit i n))) (decode b) ⊎ T (besides g s r (decode (numberOf (visit i n))) (decode b)))
             → ⊥
@@ -270,11 +341,11 @@ module _ (g ids s : List ℕ) (r : ℕ) (h : Orderly g ids s r) (five : (x : ℕ
   later-leaves m (suc n) l k c t =
       ⊎-elim
       (λ q.
-          let c′ : LeftLeave g s r n = record { first = omega arith; last = omega (arith, c .last) } in
-          going .done (numberOf (leave (suc n))) (numberOf (leave n)) (leave-stands g ids s r h five (suc n) c)
-          (later-leaves m n l (omega arith) c′ t)
-          (leave-after-leave g ids s r (numberOf (leave (suc n))) (numberOf (leave n)) n (leave-number g ids s r h five (suc n) c)
-          (leave-number g ids s r h five n c′)))
+      let c′ : LeftLeave g s r n = record { first = omega arith; last = omega (arith, c .last) } in
+      going .done (numberOf (leave (suc n))) (numberOf (leave n)) (leave-stands g ids s r h five (suc n) c)
+      (later-leaves m n l (omega arith) c′ t)
+      (leave-after-leave g ids s r (numberOf (leave (suc n))) (numberOf (leave n)) n (leave-number g ids s r h five (suc n) c)
+      (leave-number g ids s r h five n c′)))
       (λ q. subst (λ (x : ℕ). T (left (numberOf (leave x)))) q t) (below-suc m (suc n) (omega arith))
 
   pub free-leave : (m n : ℕ) → LeftLeave g s r n → Free (numberOf (leave n)) → 1 ≤ m → m < n → T (left (numberOf (leave m))) → ⊥

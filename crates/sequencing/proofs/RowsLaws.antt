@@ -19,7 +19,7 @@ unfolding over rowsOf
 row-words g rows lent paths r o e h l =
     let place : 64 * r + o ≡ r * 64 + o = omega arith in
     let size : length (rowsOf g paths) ≡ rules g * 64 =
-            length-blocks 64 (rules g) (λ r. tabulate 64 (λ o. collect 64 (λ b. paths r o b))) (λ r k. length-tabulate 64 _) in
+    length-blocks 64 (rules g) (λ r. tabulate 64 (λ o. collect 64 (λ b. paths r o b))) (λ r k. length-tabulate 64 _) in
     ap (λ (x : List ℕ). word x (64 * r + o)) e
     ∙ (List·getD-append (rowsOf g paths) (drop (length (rowsOf g paths)) lent) 0 (64 * r + o) (omega (arith, block-inside 64 r o (rules g) h l))
     ∙ (ap (λ (i : ℕ). word (rowsOf g paths) i) place

@@ -25,8 +25,17 @@ use Rattle.access.specs.ByPlace.{symbolFrom}
 use Rattle.access.proofs.Accessors.{definings-at-rule}
 use Rattle.sequences.specs.Actions.{compute, visit, leave, decode, actionNumbers, isAction, actionsOf, inheritedOf, makes}
 use Rattle.sequences.proofs.ActionLaws.{
-    ChildVisit, LeftLeave, decode-compute, decode-number, decode-leave, belongs-compute, belongs-visit, belongs-leave, action-belongs,
-    action-below, inherited-of
+  ChildVisit,
+  LeftLeave,
+  decode-compute,
+  decode-number,
+  decode-leave,
+  belongs-compute,
+  belongs-visit,
+  belongs-leave,
+  action-belongs,
+  action-below,
+  inherited-of,
 }
 use Rattle.sequences.proofs.Rising.{length-passing}
 use Rattle.sequences.proofs.Heights.{setAt, fits, left-nonterminal}
@@ -81,12 +90,12 @@ module _ (g s rows : List ℕ) (p r : ℕ) (given : Given g s rows p r) (c v l w
       let u = and-left _ _ t in
       let x = and-right _ _ t in
       record {
-          child = leb→le 1 (b / 8) (and-left _ _ u);
-          inside = omega (arith, leb→le (b / 8) (lengthAt g p) (and-right _ _ u), length-is);
-          nonterminalThere = subst (λ (y : ℕ). T (nonterminal g y)) (symbol-is g s rows p r given (b / 8)) (and-left _ _ x);
-          first = omega arith;
-          last =
-              omega (arith, ltb→lt (b % 8) (visits s (symbolFrom g p (b / 8))) (and-right _ _ x), visits-from g s rows p r given (b / 8))
+        child = leb→le 1 (b / 8) (and-left _ _ u);
+        inside = omega (arith, leb→le (b / 8) (lengthAt g p) (and-right _ _ u), length-is);
+        nonterminalThere = subst (λ (y : ℕ). T (nonterminal g y)) (symbol-is g s rows p r given (b / 8)) (and-left _ _ x);
+        first = omega arith;
+        last =
+            omega (arith, ltb→lt (b % 8) (visits s (symbolFrom g p (b / 8))) (and-right _ _ x), visits-from g s rows p r given (b / 8));
       }
 
   visit-from : (b : ℕ) → ChildVisit g s r (b / 8) (b % 8 + 1) → T (visitFrom g s p b)
@@ -100,9 +109,12 @@ module _ (g s rows : List ℕ) (p r : ℕ) (given : Given g s rows p r) (c v l w
   -- the leaves those of the left side
   leave-left : (b : ℕ) → T (remains c v l (128 + b)) → b < visits s (symbolOf g r 0)
   leave-left b t =
-      omega (arith, visits-from g s rows p r given 0,
-      hasb-below (visits s (symbolFrom g p 0)) b (below (visits s (symbolFrom g p 0))) (lib.Pow.ones-lt (visits s (symbolFrom g p 0)))
-      (subst (λ (x : ℕ). T (hasb b x)) (started .leavesAre) (subst (λ (x : Bool). T x) (remains-leave c v l b) t)))
+      omega (
+        arith,
+        visits-from g s rows p r given 0,
+        hasb-below (visits s (symbolFrom g p 0)) b (below (visits s (symbolFrom g p 0))) (lib.Pow.ones-lt (visits s (symbolFrom g p 0)))
+            (subst (λ (x : ℕ). T (hasb b x)) (started .leavesAre) (subst (λ (x : Bool). T x) (remains-leave c v l b) t)),
+      )
 
   left-leave : (b : ℕ) → b < visits s (symbolOf g r 0) → T (remains c v l (128 + b))
   left-leave b h =
@@ -147,9 +159,9 @@ module _ (g s rows : List ℕ) (p r : ℕ) (given : Given g s rows p r) (c v l w
       go (aLeave b e) =
           let f : a - 128 + 1 ≡ b + 1 = omega arith in
           let k : LeftLeave g s r (b + 1) =
-                  belongs-leave g s r (b + 1)
-                  (action-belongs g s r a (leave (b + 1))
-                  (decode-leave a (omega arith) (action-below g s r a t) ∙ ap (λ (n : ℕ). leave n) f) t) in
+          belongs-leave g s r (b + 1)
+          (action-belongs g s r a (leave (b + 1))
+          (decode-leave a (omega arith) (action-below g s r a t) ∙ ap (λ (n : ℕ). leave n) f) t) in
           subst⁻¹ (λ (x : ℕ). T (remains c v l x)) e (left-leave b (omega (arith, k .last)))
 
   -- an occurrence of a nonterminal
@@ -158,10 +170,10 @@ module _ (g s rows : List ℕ) (p r : ℕ) (given : Given g s rows p r) (c v l w
   from-made o t =
       let x = and-right _ _ t in
       record {
-          occurs =
-              and-intro _ _ (le→leb (position o) (rightLength g r) (omega (arith, leb→le (position o) (lengthAt g p) (and-left _ _ t), length-is)))
-              (subst (λ (y : ℕ). T (ltb (attribute o) (attributes g y))) (symbol-is g s rows p r given (position o)) (and-right _ _ x));
-          there = subst (λ (y : ℕ). T (nonterminal g y)) (symbol-is g s rows p r given (position o)) (and-left _ _ x)
+        occurs =
+            and-intro _ _ (le→leb (position o) (rightLength g r) (omega (arith, leb→le (position o) (lengthAt g p) (and-left _ _ t), length-is)))
+            (subst (λ (y : ℕ). T (ltb (attribute o) (attributes g y))) (symbol-is g s rows p r given (position o)) (and-right _ _ x));
+        there = subst (λ (y : ℕ). T (nonterminal g y)) (symbol-is g s rows p r given (position o)) (and-left _ _ x);
       }
 
   made-from : (o : ℕ) → Attribute g r o → T (madeFrom g p o)
@@ -179,10 +191,11 @@ module _ (g s rows : List ℕ) (p r : ℕ) (given : Given g s rows p r) (c v l w
   from-first o t =
       let k = in-set s (symbolFrom g p 0) (2 * (visits s (symbolFrom g p 0) + 1 - 1)) o t in
       let q : position o ≡ 0 = omega (arith, k .0) in
-      let z : o % 8 ≡ o = omega (arith, k .0) in
-      (q,
-      sym (set-from g s rows p r given 0 o q)
-      ∙ (ap (λ (x : ℕ). setNumber s (symbolFrom g p 0) x) z ∙ (k .1 ∙ omega (arith, visits-from g s rows p r given 0))))
+      let z : o % 8 ≡ o = omega (arith, k .0) in (
+        q,
+        sym (set-from g s rows p r given 0 o q)
+            ∙ (ap (λ (x : ℕ). setNumber s (symbolFrom g p 0) x) z ∙ (k .1 ∙ omega (arith, visits-from g s rows p r given 0))),
+      )
 
   first-from : (o : ℕ) → T (inheritedOf g s r 0 1 o) → T (hasb o (inheritedMask s (symbolFrom g p 0) 1))
   unfolding inheritedMask
@@ -198,19 +211,19 @@ module _ (g s rows : List ℕ) (p r : ℕ) (given : Given g s rows p r) (c v l w
   pub starts-going : Going g (idsOf g) s r (remains c v l) w
   starts-going =
       record {
-          actions = left-action;
-          done = λ a b i t f. action-left a i;
-          waits = λ o t. made o (minus-both o _ _ (subst (λ (x : ℕ). T (hasb o x)) (started .waitingAre) t));
-          makers = λ e o t m.
-              let a : Attribute g r o = made-attribute g (idsOf g) s r (orderly-rule g s rows p r given) e o (left-action e t) m in
-              subst⁻¹ (λ (x : ℕ). T (hasb o x)) (started .waitingAre)
-              (both-minus o _ _
-              (subst⁻¹ (λ (x : Bool). T x)
-              (hasb-collect 64 o (λ o. madeFrom g p o) (fits g (idsOf g) s r (orderly-rule g s rows p r given) o (a .occurs))) (made-from o a))
-              (not-T (hasb o (inheritedMask s (symbolFrom g p 0) 1))
-              (λ u.
-                  let k = from-first o u in
-                  first-unmade g (idsOf g) s r (orderly-rule g s rows p r given) e o (left-action e t) m (k .0) (k .1))))
+        actions = left-action;
+        done = λ a b i t f. action-left a i;
+        waits = λ o t. made o (minus-both o _ _ (subst (λ (x : ℕ). T (hasb o x)) (started .waitingAre) t));
+        makers = λ e o t m.
+            let a : Attribute g r o = made-attribute g (idsOf g) s r (orderly-rule g s rows p r given) e o (left-action e t) m in
+            subst⁻¹ (λ (x : ℕ). T (hasb o x)) (started .waitingAre)
+            (both-minus o _ _
+            (subst⁻¹ (λ (x : Bool). T x)
+            (hasb-collect 64 o (λ o. madeFrom g p o) (fits g (idsOf g) s r (orderly-rule g s rows p r given) o (a .occurs))) (made-from o a))
+            (not-T (hasb o (inheritedMask s (symbolFrom g p 0) 1))
+            (λ u.
+            let k = from-first o u in
+            first-unmade g (idsOf g) s r (orderly-rule g s rows p r given) e o (left-action e t) m (k .0) (k .1))));
       }
     where
       made : (o : ℕ) → T (hasb o (collect 64 (λ o. madeFrom g p o))) × T (not (hasb o (inheritedMask s (symbolFrom g p 0) 1)))
@@ -233,8 +246,14 @@ module _ (g s rows : List ℕ) (p r : ℕ) (given : Given g s rows p r) (c v l w
   unfolding remaining
   starts-count =
       let whole : count 192 (remains c v l) ≡ count 136 (remains c v l) =
-              count-gap (remains c v l) 136 192 (omega arith) (λ i h k t. omega (arith, action-below g s r i (left-action i t))) in
-      omega (arith, length-passing actionNumbers (remains c v l), whole, count-add 128 64 (remains c v l), count-add 64 64 (remains c v l),
-      count-members 64 c (remains c v l) (λ i h. remains-compute c v l i h),
-      count-members 64 v (λ i. remains c v l (64 + i)) (λ i h. remains-visit c v l i h),
-      count-members 64 l (λ i. remains c v l (128 + i)) (λ i h. remains-leave c v l i))
+      count-gap (remains c v l) 136 192 (omega arith) (λ i h k t. omega (arith, action-below g s r i (left-action i t))) in
+      omega (
+        arith,
+        length-passing actionNumbers (remains c v l),
+        whole,
+        count-add 128 64 (remains c v l),
+        count-add 64 64 (remains c v l),
+        count-members 64 c (remains c v l) (λ i h. remains-compute c v l i h),
+        count-members 64 v (λ i. remains c v l (64 + i)) (λ i h. remains-visit c v l i h),
+        count-members 64 l (λ i. remains c v l (128 + i)) (λ i h. remains-leave c v l i),
+      )

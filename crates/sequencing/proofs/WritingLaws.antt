@@ -52,15 +52,15 @@ module _ (g s rows : List ℕ) (p r : ℕ) where
       let whole : n - 0 ≡ n = omega arith in
       let a : remaining (remains c v l) ≡ actionsOf g s r = starts-all g s rows p r given c v l w started in
       record {
-          inside = omega arith;
-          short = omega (arith, ap length a, at-most-104 g s r (five-visits g s rows p r given));
-          left = omega arith;
-          going = starts-going g s rows p r given c v l w started;
-          out = [];
-          outLength = refl;
-          blockIs = refl;
-          rest =
-              sym (ap₂ (λ (m : ℕ) (xs : List ℕ). order (λ a b. follows g (idsOf g) s r a b) m xs) (whole ∙ (f ∙ ap length a)) a)
+        inside = omega arith;
+        short = omega (arith, ap length a, at-most-104 g s r (five-visits g s rows p r given));
+        left = omega arith;
+        going = starts-going g s rows p r given c v l w started;
+        out = [];
+        outLength = refl;
+        blockIs = refl;
+        rest =
+            sym (ap₂ (λ (m : ℕ) (xs : List ℕ). order (λ a b. follows g (idsOf g) s r a b) m xs) (whole ∙ (f ∙ ap length a)) a);
       }
 
   -- some action is left, and its word has room
@@ -73,22 +73,22 @@ module _ (g s rows : List ℕ) (p r : ℕ) where
       let more : 111 - j ≡ suc (111 - (j + 1)) = omega (arith, k .short) in
       let steps : n - j ≡ suc (n - (j + 1)) = omega arith in
       record {
-          inside = omega arith;
-          short = k .short;
-          left = omega (arith, k .left, t .fewer);
-          going = t .going;
-          out = k .out ++ (a ∷ []);
-          outLength = length-append (k .out) (a ∷ []) ∙ omega (arith, k .outLength);
-          blockIs =
-              ap (λ (b : List ℕ). set b (j + 1) a) (k .blockIs)
-              ∙ (ap (λ (m : ℕ). set (n ∷ (k .out ++ replicate m 0)) (j + 1) a) more
-              ∙ (set-at (n ∷ k .out) 0 (replicate (111 - (j + 1)) 0) a (j + 1) (omega (arith, k .outLength))
-              ∙ ap (λ (b : List ℕ). n ∷ b) (sym (append-assoc (k .out) (a ∷ []) (replicate (111 - (j + 1)) 0)))));
-          rest =
-              k .rest
-              ∙ (ap (λ (m : ℕ). k .out ++ order (λ a b. follows g (idsOf g) s r a b) m (remaining (remains c v l))) steps
-              ∙ (ap (λ (b : List ℕ). k .out ++ b) (t .next (n - (j + 1)))
-              ∙ sym (append-assoc (k .out) (a ∷ []) (order (λ a b. follows g (idsOf g) s r a b) (n - (j + 1)) (remaining (remains c′ v′ l′))))))
+        inside = omega arith;
+        short = k .short;
+        left = omega (arith, k .left, t .fewer);
+        going = t .going;
+        out = k .out ++ (a ∷ []);
+        outLength = length-append (k .out) (a ∷ []) ∙ omega (arith, k .outLength);
+        blockIs =
+            ap (λ (b : List ℕ). set b (j + 1) a) (k .blockIs)
+            ∙ (ap (λ (m : ℕ). set (n ∷ (k .out ++ replicate m 0)) (j + 1) a) more
+            ∙ (set-at (n ∷ k .out) 0 (replicate (111 - (j + 1)) 0) a (j + 1) (omega (arith, k .outLength))
+            ∙ ap (λ (b : List ℕ). n ∷ b) (sym (append-assoc (k .out) (a ∷ []) (replicate (111 - (j + 1)) 0)))));
+        rest =
+            k .rest
+            ∙ (ap (λ (m : ℕ). k .out ++ order (λ a b. follows g (idsOf g) s r a b) m (remaining (remains c v l))) steps
+            ∙ (ap (λ (b : List ℕ). k .out ++ b) (t .next (n - (j + 1)))
+            ∙ sym (append-assoc (k .out) (a ∷ []) (order (λ a b. follows g (idsOf g) s r a b) (n - (j + 1)) (remaining (remains c′ v′ l′))))));
       }
 
   pub writing-finish : (n : ℕ) (block : List ℕ) (c v l w j : ℕ) → Writing n block c v l w j → n ≤ j
@@ -98,9 +98,9 @@ module _ (g s rows : List ℕ) (p r : ℕ) where
       let e : j ≡ n = omega (arith, k .inside) in
       let z : n - j ≡ 0 = omega arith in
       let all : sequenceOf g (idsOf g) s r ≡ k .out =
-              k .rest
-              ∙ (ap (λ (m : ℕ). k .out ++ order (λ a b. follows g (idsOf g) s r a b) m (remaining (remains c v l))) z
-              ∙ mathlib.Core.List.append-nil (k .out)) in
+      k .rest
+      ∙ (ap (λ (m : ℕ). k .out ++ order (λ a b. follows g (idsOf g) s r a b) m (remaining (remains c v l))) z
+      ∙ mathlib.Core.List.append-nil (k .out)) in
       let f : length (k .out) ≡ n = k .outLength ∙ e in
       let m : 111 - j ≡ 112 - suc (length (k .out)) = omega (arith, k .outLength) in
       k .blockIs
@@ -125,12 +125,12 @@ pub copying-turn : (entry : List ℕ) (at : ℕ) (block plan : List ℕ) (j : �
     → Copying entry at block (set plan (at + j) (getD block j 0)) (j + 1)
 copying-turn entry at block plan j w h =
     record {
-        inside = omega arith;
-        room = w .room;
-        planIs =
-            ap (λ (x : List ℕ). set x (at + j) (getD block j 0)) (w .planIs)
-            ∙ (paste-suc entry at block j 0 (omega (arith, w .room)) h
-            ∙ ap (λ (k : ℕ). paste entry at block k) (sym (add-one j)))
+      inside = omega arith;
+      room = w .room;
+      planIs =
+          ap (λ (x : List ℕ). set x (at + j) (getD block j 0)) (w .planIs)
+          ∙ (paste-suc entry at block j 0 (omega (arith, w .room)) h
+          ∙ ap (λ (k : ℕ). paste entry at block k) (sym (add-one j)));
     }
 
 pub copying-length : (entry : List ℕ) (at : ℕ) (block plan : List ℕ) (j : ℕ) → Copying entry at block plan j → length plan ≡ length entry

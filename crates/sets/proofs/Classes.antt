@@ -53,8 +53,8 @@ pub class-or-next : (g : List ℕ) (x k a : ℕ) → T (ofClass g x k a) ⊎ T (
 class-or-next g x k a =
     ⊎-elim
     (λ p.
-        ⊎-elim (λ e. inl (even-inherited g x k a p e)) (λ d. inr (even-inherited g x (suc k) a p (omega arith)))
-        (same-or-not (k % 2) 0))
+    ⊎-elim (λ e. inl (even-inherited g x k a p e)) (λ d. inr (even-inherited g x (suc k) a p (omega arith)))
+    (same-or-not (k % 2) 0))
     (λ p.
-        ⊎-elim (λ e. inl (odd-synthesized g x k a p e)) (λ d. inr (odd-synthesized g x (suc k) a p (omega arith)))
-        (same-or-not (k % 2) 1)) (tested (inherited g x a))
+    ⊎-elim (λ e. inl (odd-synthesized g x k a p e)) (λ d. inr (odd-synthesized g x (suc k) a p (omega arith)))
+    (same-or-not (k % 2) 1)) (tested (inherited g x a))

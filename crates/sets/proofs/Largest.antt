@@ -11,7 +11,15 @@ use Rattle.grammar.specs.Table.{attributes}
 use Rattle.sets.specs.Paper.{Earlier, Collection, Largest}
 use Rattle.sets.specs.Computed.{mostSets, placedUpTo}
 use Rattle.sets.proofs.Placing.{
-    Arc, numberAfter, Taken, taken-gets, keeps, number-at-most, later, taken-at, number-of-attribute
+  Arc,
+  numberAfter,
+  Taken,
+  taken-gets,
+  keeps,
+  number-at-most,
+  later,
+  taken-at,
+  number-of-attribute,
 }
 
 module _ (g ids : List ℕ) (x : ℕ) (few : attributes g x ≤ mostAttributes)
@@ -37,22 +45,22 @@ module _ (g ids : List ℕ) (x : ℕ) (few : attributes g x ≤ mostAttributes)
         → Taken g ids x (placedUpTo g ids x j) (suc j) b
     takes-successor a b t r z =
         record {
-            inside = r .1;
-            free = z;
-            class = t .successors b r z;
-            successors = λ c q. t .successors c (transitive a b c r q)
+          inside = r .1;
+          free = z;
+          class = t .successors b r z;
+          successors = λ c q. t .successors c (transitive a b c r q);
         }
 
     -- the set is a collection
     set-collects : Collection g x (Arc g ids x) (numberAfter g ids x mostSets) (suc j) (λ a. numberAfter g ids x mostSets a ≡ suc j)
     set-collects =
         record {
-            attributeOf = λ a e. taken-at g ids x j mostSets a e .inside;
-            unplaced = λ a e l. omega (arith, l .1);
-            class = λ a e. taken-at g ids x j mostSets a e .class;
-            successors = λ a b e r.
-                ⊎-elim (λ l. inr (taken-ends j b h (takes-successor a b (taken-at g ids x j mostSets a e) r (omega arith))))
-                (λ l. inl (placed-earlier b l)) (below-or-not (numberAfter g ids x j b) 1)
+          attributeOf = λ a e. taken-at g ids x j mostSets a e .inside;
+          unplaced = λ a e l. omega (arith, l .1);
+          class = λ a e. taken-at g ids x j mostSets a e .class;
+          successors = λ a b e r.
+              ⊎-elim (λ l. inr (taken-ends j b h (takes-successor a b (taken-at g ids x j mostSets a e) r (omega arith))))
+              (λ l. inl (placed-earlier b l)) (below-or-not (numberAfter g ids x j b) 1);
         }
 
     -- a member of any collection is taken
@@ -60,19 +68,19 @@ module _ (g ids : List ℕ) (x : ℕ) (few : attributes g x ≤ mostAttributes)
         → (a : ℕ) → member a → Taken g ids x (placedUpTo g ids x j) (suc j) a
     member-taken member c a m =
         record {
-            inside = c .attributeOf a m;
-            free = ⊎-elim (λ l. omega arith) (λ l. absurd (c .unplaced a m (placed-earlier a l))) (below-or-not (numberAfter g ids x j a) 1);
-            class = c .class a m;
-            successors = λ b r z.
-                ⊎-elim (λ l. absurd (unplaced-not-earlier b z l)) (λ n. c .class b n) (c .successors a b m r)
+          inside = c .attributeOf a m;
+          free = ⊎-elim (λ l. omega arith) (λ l. absurd (c .unplaced a m (placed-earlier a l))) (below-or-not (numberAfter g ids x j a) 1);
+          class = c .class a m;
+          successors = λ b r z.
+              ⊎-elim (λ l. absurd (unplaced-not-earlier b z l)) (λ n. c .class b n) (c .successors a b m r);
         }
 
     -- each of the nine sets is the largest collection, whether all are placed or not
     pub one-of-nine-largest : Largest g x (Arc g ids x) (numberAfter g ids x mostSets) (suc j)
     one-of-nine-largest =
         record {
-            collection = set-collects;
-            largest = λ member c a m. taken-ends j a h (member-taken member c a m)
+          collection = set-collects;
+          largest = λ member c a m. taken-ends j a h (member-taken member c a m);
         }
 
   -- past the ninth set nothing is left to take, where every attribute is placed
@@ -80,14 +88,14 @@ module _ (g ids : List ℕ) (x : ℕ) (few : attributes g x ≤ mostAttributes)
       → (k : ℕ) → mostSets < k → Largest g x (Arc g ids x) (numberAfter g ids x mostSets) k
   later-largest placed k h =
       record {
-          collection = record {
-              attributeOf = λ a e. number-of-attribute g ids x mostSets a (omega arith);
-              unplaced = λ a e l. omega (arith, l .1);
-              class = λ a e. absurd (omega (arith, number-at-most g ids x mostSets a));
-              successors = λ a b e r. absurd (omega (arith, number-at-most g ids x mostSets a))
-          };
-          largest = λ member c a m.
-              absurd (c .unplaced a m (omega (arith, placed a (c .attributeOf a m), number-at-most g ids x mostSets a)))
+        collection = record {
+          attributeOf = λ a e. number-of-attribute g ids x mostSets a (omega arith);
+          unplaced = λ a e l. omega (arith, l .1);
+          class = λ a e. absurd (omega (arith, number-at-most g ids x mostSets a));
+          successors = λ a b e r. absurd (omega (arith, number-at-most g ids x mostSets a));
+        };
+        largest = λ member c a m.
+            absurd (c .unplaced a m (omega (arith, placed a (c .attributeOf a m), number-at-most g ids x mostSets a)));
       }
 
   -- "Set k is the largest collection"

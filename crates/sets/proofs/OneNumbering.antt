@@ -18,12 +18,12 @@ module _ (g : List ℕ) (x : ℕ) (ids : ℕ → ℕ → Type 0) where
   carried : (s t : ℕ → ℕ) → Sets g x ids s → (k : ℕ) → 1 ≤ k → Agree s t k → Agree t s k → Collection g x ids t k (λ a. s a ≡ k)
   carried s t v k h forth back =
       record {
-          attributeOf = v .each k h .collection .attributeOf;
-          unplaced = λ a e w. omega (arith, e, back a (w .0) (w .1));
-          class = v .each k h .collection .class;
-          successors = λ a b e i.
-              ⊎-elim (λ w. inl (omega (arith, w .0, forth b (w .0) (w .1)), omega (arith, w .1, forth b (w .0) (w .1)))) (λ m. inr m)
-              (v .each k h .collection .successors a b e i)
+        attributeOf = v .each k h .collection .attributeOf;
+        unplaced = λ a e w. omega (arith, e, back a (w .0) (w .1));
+        class = v .each k h .collection .class;
+        successors = λ a b e i.
+            ⊎-elim (λ w. inl (omega (arith, w .0, forth b (w .0) (w .1)), omega (arith, w .1, forth b (w .0) (w .1)))) (λ m. inr m)
+            (v .each k h .collection .successors a b e i);
       }
 
   module _ (s t : ℕ → ℕ) (v : Sets g x ids s) (w : Sets g x ids t) where
@@ -32,13 +32,14 @@ module _ (g : List ℕ) (x : ℕ) (ids : ℕ → ℕ → Type 0) where
     both (suc k) = go (both k)
       where
         go : Agree s t k × Agree t s k → Agree s t (suc k) × Agree t s (suc k)
-        go (forth, back) =
-            (λ a h l.
-                ⊎-elim (λ m. forth a h m)
-                (λ e. w .each k (omega arith) .largest (λ b. s b ≡ k) (carried s t v k (omega arith) forth back) a e ∙ sym e) (below-suc (s a) k l),
-            λ a h l.
-                ⊎-elim (λ m. back a h m)
-                (λ e. v .each k (omega arith) .largest (λ b. t b ≡ k) (carried t s w k (omega arith) back forth) a e ∙ sym e) (below-suc (t a) k l))
+        go (forth, back) = (
+          λ a h l.
+              ⊎-elim (λ m. forth a h m)
+              (λ e. w .each k (omega arith) .largest (λ b. s b ≡ k) (carried s t v k (omega arith) forth back) a e ∙ sym e) (below-suc (s a) k l),
+          λ a h l.
+              ⊎-elim (λ m. back a h m)
+              (λ e. v .each k (omega arith) .largest (λ b. t b ≡ k) (carried t s w k (omega arith) back forth) a e ∙ sym e) (below-suc (t a) k l),
+        )
 
     pub sets-one : (a : ℕ) → s a ≡ t a
     sets-one a =

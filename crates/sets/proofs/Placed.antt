@@ -17,8 +17,17 @@ use Rattle.sets.specs.Computed.{mostSets, unplaced, placedUpTo}
 use Rattle.sets.proofs.Classes.{class-or-next}
 use Rattle.sets.proofs.Sinks.{Sink, sink-exists}
 use Rattle.sets.proofs.Placing.{
-    Arc, numberAfter, Taken, taken-gets, step-cases, keeps, unplaced-before, unplaced-until, number-at-most, number-of-attribute,
-    number-of-nothing
+  Arc,
+  numberAfter,
+  Taken,
+  taken-gets,
+  step-cases,
+  keeps,
+  unplaced-before,
+  unplaced-until,
+  number-at-most,
+  number-of-attribute,
+  number-of-nothing,
 }
 use Rattle.sets.proofs.Largest.{taken-ends, set-largest}
 
@@ -45,20 +54,23 @@ module _ (g ids : List ℕ) (x : ℕ) (few : attributes g x ≤ mostAttributes)
           → Taken g ids x (placedUpTo g ids x (suc k)) (suc (suc k)) (w .sink)
       taken w (inl c) =
           let free : numberAfter g ids x (suc k) (w .sink) ≡ 0 = eqb→eq (numberAfter g ids x (suc k) (w .sink)) 0 (w .passes) in
-          absurd (omega (arith, taken-gets g ids x k (w .sink) (omega (arith, w .inside)) (record {
+          absurd (omega (
+            arith,
+            taken-gets g ids x k (w .sink) (omega (arith, w .inside)) (record {
               inside = w .inside;
               free = unplaced-before g ids x k (suc k) (w .sink) (omega arith) free;
               class = c;
               successors = λ b r y.
                   ⊎-elim (λ t. t .0 .class)
-                  (λ e. absurd (w .ends b (r .1) (r .2) (eq-T (numberAfter g ids x (suc k) b) 0 (e ∙ y)))) (step-cases g ids x k b)
-          })))
+                  (λ e. absurd (w .ends b (r .1) (r .2) (eq-T (numberAfter g ids x (suc k) b) 0 (e ∙ y)))) (step-cases g ids x k b);
+            }),
+          ))
       taken w (inr c) =
           record {
-              inside = w .inside;
-              free = eqb→eq (numberAfter g ids x (suc k) (w .sink)) 0 (w .passes);
-              class = c;
-              successors = λ b r y. absurd (w .ends b (r .1) (r .2) (eq-T (numberAfter g ids x (suc k) b) 0 y))
+            inside = w .inside;
+            free = eqb→eq (numberAfter g ids x (suc k) (w .sink)) 0 (w .passes);
+            class = c;
+            successors = λ b r y. absurd (w .ends b (r .1) (r .2) (eq-T (numberAfter g ids x (suc k) b) 0 y));
           }
 
   -- how many attributes have a number after k sets
@@ -71,8 +83,8 @@ module _ (g ids : List ℕ) (x : ℕ) (few : attributes g x ≤ mostAttributes)
   grows k s t =
       count-more (attributes g x) (λ b. ltb 0 (numberAfter g ids x k b)) (λ b. ltb 0 (numberAfter g ids x (suc k) b))
       (λ b l p.
-          let h : 1 ≤ numberAfter g ids x k b = ltb→lt 0 (numberAfter g ids x k b) p in
-          lt→ltb 0 (numberAfter g ids x (suc k) b) (omega (arith, keeps g ids x k (suc k) b (omega arith) h)))
+      let h : 1 ≤ numberAfter g ids x k b = ltb→lt 0 (numberAfter g ids x k b) p in
+      lt→ltb 0 (numberAfter g ids x (suc k) b) (omega (arith, keeps g ids x k (suc k) b (omega arith) h)))
       s (t .inside)
       (not-T (ltb 0 (numberAfter g ids x k s)) (λ p. omega (arith, ltb→lt 0 (numberAfter g ids x k s) p, t .free)))
       (lt→ltb 0 (numberAfter g ids x (suc k) s) (omega (arith, taken-gets g ids x k s (omega (arith, t .inside)) t)))
@@ -91,19 +103,23 @@ module _ (g ids : List ℕ) (x : ℕ) (few : attributes g x ≤ mostAttributes)
   all-placed a l =
       ⊎-elim
       (λ h.
-          let z : numberAfter g ids x mostSets a ≡ 0 = omega arith in
-          absurd (omega (arith, many-placed 8 a l z, count-le (attributes g x) (λ b. true),
-          count-more (attributes g x) (λ b. ltb 0 (numberAfter g ids x mostSets b)) (λ b. true) (λ b i p. tt) a l
-          (not-T (ltb 0 (numberAfter g ids x mostSets a)) (λ p. omega (arith, ltb→lt 0 (numberAfter g ids x mostSets a) p))) tt)))
+      let z : numberAfter g ids x mostSets a ≡ 0 = omega arith in
+      absurd (omega (
+        arith,
+        many-placed 8 a l z,
+        count-le (attributes g x) (λ b. true),
+        count-more (attributes g x) (λ b. ltb 0 (numberAfter g ids x mostSets b)) (λ b. true) (λ b i p. tt) a l
+            (not-T (ltb 0 (numberAfter g ids x mostSets a)) (λ p. omega (arith, ltb→lt 0 (numberAfter g ids x mostSets a) p))) tt,
+      )))
       (λ h. h) (below-or-not (numberAfter g ids x mostSets a) 1)
 
   -- the numbers are those of the sets
   pub are-the-sets : Sets g x (Arc g ids x) (numberAfter g ids x mostSets)
   are-the-sets =
       record {
-          each = λ k h. set-largest g ids x few transitive all-placed k h;
-          placed = all-placed;
-          nothing = λ a h. number-of-nothing g ids x mostSets a h
+        each = λ k h. set-largest g ids x few transitive all-placed k h;
+        placed = all-placed;
+        nothing = λ a h. number-of-nothing g ids x mostSets a h;
       }
 
   -- only set 1 can be empty: below a number that an attribute has, every number from 2 is had
@@ -114,7 +130,7 @@ module _ (g ids : List ℕ) (x : ℕ) (few : attributes g x ≤ mostAttributes)
   only-first-empty a (suc (suc i)) h l =
       let most = number-at-most g ids x mostSets a in
       let w = next-takes i a (number-of-attribute g ids x mostSets a (omega arith))
-              (unplaced-until g ids x (suc i) mostSets a (omega arith) (omega arith)) in
+      (unplaced-until g ids x (suc i) mostSets a (omega arith) (omega arith)) in
       (w .0, w .1 .inside, taken-ends g ids x few transitive (suc i) (w .0) (omega arith) (w .1))
 
   -- an arc leads to the same set or an earlier one

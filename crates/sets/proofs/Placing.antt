@@ -10,7 +10,17 @@ use lib.Dec.{T, ltb→lt, lt→ltb, eqb→eq}
 use lib.ListN.{length, replicate, length-replicate, getD-replicate, List·getD-eq-default}
 use Rattle.basics.specs.Lists.{word}
 use Rattle.basics.proofs.TestLaws.{
-    and-intro, and-left, and-right, implies-intro, implies-use, tested, eq-T, below-or-not, below-suc, all-at, all-intro
+  and-intro,
+  and-left,
+  and-right,
+  implies-intro,
+  implies-use,
+  tested,
+  eq-T,
+  below-or-not,
+  below-suc,
+  all-at,
+  all-intro,
 }
 use Rattle.basics.proofs.ListLaws.{length-tabulate, getD-tabulate}
 use Rattle.grammar.specs.Limits.{mostAttributes}
@@ -49,19 +59,19 @@ module _ (g ids : List ℕ) (x : ℕ) where
       (and-intro _ _ (eq-T (word placed a) 0 (t .free))
       (and-intro _ _ (t .class)
       (all-intro (attributes g x) _ (λ b l.
-          implies-intro _ _ (λ p. t .successors b (t .inside, l, and-left _ _ p) (eqb→eq (word placed b) 0 (and-right _ _ p)))))))
+      implies-intro _ _ (λ p. t .successors b (t .inside, l, and-left _ _ p) (eqb→eq (word placed b) 0 (and-right _ _ p)))))))
 
   -- what the test of set k says, once it has passed
   pub takes-means : (placed : List ℕ) (k a : ℕ) → T (takes g ids x placed k a) → Taken g ids x placed k a
   unfolding takes
   takes-means placed k a t =
       record {
-          inside = ltb→lt a (attributes g x) (and-left _ _ t);
-          free = eqb→eq (word placed a) 0 (and-left _ _ (and-right _ _ t));
-          class = and-left _ _ (and-right _ _ (and-right _ _ t));
-          successors = λ b r z.
-              implies-use _ _ (all-at (attributes g x) _ (and-right _ _ (and-right _ _ (and-right _ _ t))) b (r .1))
-              (and-intro _ _ (r .2) (eq-T (word placed b) 0 z))
+        inside = ltb→lt a (attributes g x) (and-left _ _ t);
+        free = eqb→eq (word placed a) 0 (and-left _ _ (and-right _ _ t));
+        class = and-left _ _ (and-right _ _ (and-right _ _ t));
+        successors = λ b r z.
+            implies-use _ _ (all-at (attributes g x) _ (and-right _ _ (and-right _ _ (and-right _ _ t))) b (r .1))
+            (and-intro _ _ (r .2) (eq-T (word placed b) 0 z));
       }
 
   -- eight words, whatever is placed
@@ -103,9 +113,9 @@ module _ (g ids : List ℕ) (x : ℕ) where
   step-cases k a =
       ⊎-elim
       (λ l.
-          ⊎-elim (λ t. let w = takes-means (placedUpTo g ids x k) (suc k) a t in inl (w, taken-gets k a l w))
-          (λ t. inr (one-step k a l ∙ left (takes g ids x (placedUpTo g ids x k) (suc k) a) t))
-          (tested (takes g ids x (placedUpTo g ids x k) (suc k) a)))
+      ⊎-elim (λ t. let w = takes-means (placedUpTo g ids x k) (suc k) a t in inl (w, taken-gets k a l w))
+      (λ t. inr (one-step k a l ∙ left (takes g ids x (placedUpTo g ids x k) (suc k) a) t))
+      (tested (takes g ids x (placedUpTo g ids x k) (suc k) a)))
       (λ l. inr (none-past (suc k) a l ∙ sym (none-past k a l))) (below-or-not a mostAttributes)
     where
       left : (b : Bool) → T (not b) → cond b (suc k) (numberAfter g ids x k a) ≡ numberAfter g ids x k a
@@ -140,7 +150,7 @@ module _ (g ids : List ℕ) (x : ℕ) where
   later j (suc k) a l z h =
       ⊎-elim
       (λ p.
-          ⊎-elim (λ t. omega (arith, t .1)) (λ e. omega (arith, later j k a (omega arith) z (omega arith))) (step-cases k a))
+      ⊎-elim (λ t. omega (arith, t .1)) (λ e. omega (arith, later j k a (omega arith) z (omega arith))) (step-cases k a))
       (λ e. absurd (omega (arith, ap (λ (i : ℕ). numberAfter g ids x i a) e))) (below-suc j (suc k) (omega arith))
 
   -- an attribute is unplaced until the set of its number

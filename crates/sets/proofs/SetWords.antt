@@ -18,7 +18,13 @@ use Rattle.sets.specs.Paper.{ofClass, Sets}
 use Rattle.sets.specs.Visits.{setNumber}
 use Rattle.sets.specs.Computed.{mostSets, placedUpTo, setsOfSymbol, setsOf}
 use Rattle.sets.proofs.Placing.{
-    word-zeros, Arc, numberAfter, length-placed, number-at-most, number-of-attribute, number-class
+  word-zeros,
+  Arc,
+  numberAfter,
+  length-placed,
+  number-at-most,
+  number-of-attribute,
+  number-class,
 }
 use Rattle.sets.proofs.Placed.{all-placed, are-the-sets, only-first-empty, arcs-down}
 
@@ -95,16 +101,16 @@ module _ (g ids : List ℕ) where
   numbered x a l h =
       ⊎-elim
       (λ m.
-          ⊎-elim
-          (λ p.
-              let n = number-of-nonterminal x a m (p .0) (p .1) l in
-              record {
-                  symbolFits = p .0;
-                  symbolIs = p .1;
-                  attributeFits = number-of-attribute g ids x mostSets a (omega arith);
-                  numberIs = n
-              })
-          (λ q. absurd (omega (arith, number-of-other x a q l))) (nonterminal-or-not x))
+      ⊎-elim
+      (λ p.
+      let n = number-of-nonterminal x a m (p .0) (p .1) l in
+      record {
+        symbolFits = p .0;
+        symbolIs = p .1;
+        attributeFits = number-of-attribute g ids x mostSets a (omega arith);
+        numberIs = n;
+      })
+      (λ q. absurd (omega (arith, number-of-other x a q l))) (nonterminal-or-not x))
       (λ m. absurd (omega (arith, word-past x a m))) (below-or-not x mostSymbols)
 
   -- no number where nothing stands

@@ -30,15 +30,15 @@ module _ (n : ℕ) (arc : ℕ → ℕ → Bool) (f : ℕ → Bool)
   walk (suc m) a l p h =
       ⊎-elim
       (λ t.
-          let w = some-find n (λ c. arc a c and f c) t in
-          let r : T (arc a (w .0)) = and-left _ _ (w .2) in
-          let q : T (f (w .0)) = and-right (arc a (w .0)) _ (w .2) in
-          walk m (w .0) (w .1) q (omega (arith, fewer a (w .0) l (w .1) r q)))
+      let w = some-find n (λ c. arc a c and f c) t in
+      let r : T (arc a (w .0)) = and-left _ _ (w .2) in
+      let q : T (f (w .0)) = and-right (arc a (w .0)) _ (w .2) in
+      walk m (w .0) (w .1) q (omega (arith, fewer a (w .0) l (w .1) r q)))
       (λ t. record {
-          sink = a;
-          inside = l;
-          passes = p;
-          ends = λ b q r s. T-not (some n (λ c. arc a c and f c)) t (some-at n (λ c. arc a c and f c) b q (and-intro _ _ r s))
+        sink = a;
+        inside = l;
+        passes = p;
+        ends = λ b q r s. T-not (some n (λ c. arc a c and f c)) t (some-at n (λ c. arc a c and f c) b q (and-intro _ _ r s));
       }) (tested (some n (λ c. arc a c and f c)))
 
   -- where one number passes, there is a sink

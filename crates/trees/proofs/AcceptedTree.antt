@@ -19,10 +19,27 @@ use Rattle.grammar.specs.Verdicts.{_then_, unless, each}
 use Rattle.grammar.specs.WellFormed.{WellFormed, RuleFormed}
 use Rattle.grammar.proofs.VerdictLaws.{then-first, then-second, unless-passes, each-at}
 use Rattle.trees.specs.Tree.{
-    mostNodes, terminalMark, nodes, ruleOf, appliesRule, child, usedSlots, symbolAtNode, valueWords
+  mostNodes,
+  terminalMark,
+  nodes,
+  ruleOf,
+  appliesRule,
+  child,
+  usedSlots,
+  symbolAtNode,
+  valueWords,
 }
 use Rattle.trees.specs.Checking.{
-    sizeFits, knownWord, slotFits, slotsFit, nodeFault, rootIsStart, childrenFit, namesNode, onceChild, checkTree
+  sizeFits,
+  knownWord,
+  slotFits,
+  slotsFit,
+  nodeFault,
+  rootIsStart,
+  childrenFit,
+  namesNode,
+  onceChild,
+  checkTree,
 }
 use Rattle.trees.specs.Formed.{ChildOf, Parent, TreeFormed}
 
@@ -60,9 +77,11 @@ module _ (g t : List ℕ) where
   -- The tests, each as its fact.
   size-fits : T (sizeFits t) → (length t % 8 ≡ 0) × (1 ≤ nodes t) × (nodes t ≤ mostNodes)
   unfolding sizeFits
-  size-fits s =
-      (eqb→eq (length t % 8) 0 (and-left _ _ s), leb→le 1 (nodes t) (and-left _ _ (and-right _ _ s)),
-      leb→le (nodes t) mostNodes (and-right _ _ (and-right _ _ s)))
+  size-fits s = (
+    eqb→eq (length t % 8) 0 (and-left _ _ s),
+    leb→le 1 (nodes t) (and-left _ _ (and-right _ _ s)),
+    leb→le (nodes t) mostNodes (and-right _ _ (and-right _ _ s)),
+  )
 
   known-rule : (n : ℕ) → T (knownWord g t n) → T (appliesRule t n) → ruleOf t n < rules g
   unfolding knownWord
@@ -74,14 +93,14 @@ module _ (g t : List ℕ) where
   unfolding knownWord
   known-terminal n k a =
       let s : T (ltb (ruleOf t n - terminalMark) (symbols g) and not (nonterminal g (ruleOf t n - terminalMark))) =
-              subst (λ (b : Bool). T b) (passed-over (appliesRule t n) _ _ a) k in
+      subst (λ (b : Bool). T b) (passed-over (appliesRule t n) _ _ a) k in
       (ltb→lt _ _ (and-left _ _ s), and-right _ _ s)
 
   slot-used : (n i : ℕ) → T (slotFits g t n i) → i ≤ usedSlots g t n → (n < child t n i) × (child t n i < nodes t)
   unfolding slotFits
   slot-used n i s h =
       let u : T (ltb n (child t n i) and ltb (child t n i) (nodes t)) =
-              subst (λ (b : Bool). T b) (chosen (leb i (usedSlots g t n)) _ _ (le→leb i (usedSlots g t n) h)) s in
+      subst (λ (b : Bool). T b) (chosen (leb i (usedSlots g t n)) _ _ (le→leb i (usedSlots g t n) h)) s in
       (ltb→lt n (child t n i) (and-left _ _ u), ltb→lt (child t n i) (nodes t) (and-right _ _ u))
 
   slot-unused : (n i : ℕ) → T (slotFits g t n i) → usedSlots g t n < i → child t n i ≡ 0
@@ -121,11 +140,14 @@ module _ (g t : List ℕ) where
       let u = and-right _ _ s in
       let e : k ≡ 8 * (k / 8) + k % 8 = omega arith in
       let w : ChildOf g t (k / 8) (k % 8) (child t (k / 8) (k % 8)) =
-              used-child (k / 8) (k % 8) (omega arith) (leb→le 1 (k % 8) (and-left _ _ s))
-              (leb→le (k % 8) (usedSlots g t (k / 8)) (and-left _ _ u)) in
+      used-child (k / 8) (k % 8) (omega arith) (leb→le 1 (k % 8) (and-left _ _ s))
+      (leb→le (k % 8) (usedSlots g t (k / 8)) (and-left _ _ u)) in
       record {
-          inside = w .inside; applies = w .applies; first = w .first; last = w .last;
-          names = ap (λ (j : ℕ). word t j) (sym e) ∙ eqb→eq (word t k) c (and-right _ _ u)
+        inside = w .inside;
+        applies = w .applies;
+        first = w .first;
+        last = w .last;
+        names = ap (λ (j : ℕ). word t j) (sym e) ∙ eqb→eq (word t k) c (and-right _ _ u);
       }
 
   names-once : (c : ℕ) → T (onceChild g t c) → 1 ≤ c → count (8 * nodes t) (λ k. namesNode g t c k) ≡ 1
@@ -193,27 +215,27 @@ module _ (g t : List ℕ) where
     unfolding rootIsStart
     accepted-tree =
         record {
-            wholeNodes = size .0;
-            someNode = size .1;
-            nodesFit = size .2;
-            ruleKnown = λ n h a. known-rule n (known n h) a;
-            terminalKnown = λ n h a. known-terminal n (known n h) a .0;
-            terminalIs = λ n h a. known-terminal n (known n h) a .1;
-            childHigher = λ n i c w. child-inside n i c w .0;
-            childNode = λ n i c w. child-inside n i c w .1;
-            unusedZero = λ n i h l s. slot-unused n i (slot-at n i (slots n h) (omega arith) s) l;
-            rootStart = eqb→eq _ _ (unless-passes _ _ (then-first _ _ (then-second _ _ parts)));
-            childSymbol = λ n i c w.
-                subst (λ (k : ℕ). symbolAtNode g t k ≡ symbolOf g (ruleOf t n) i) (w .names)
-                (fits-at n i (differs n (w .inside)) (w .first) (child-used n i c w));
-            parentOf = parent-of;
-            sameParent = λ n i m j c v w.
-                let s = child-inside n i c v in
-                omega (arith, same-word n i m j c (omega (arith, s .0)) (s .1) v w, short n i c v, short m j c w);
-            sameSlot = λ n i m j c v w.
-                let s = child-inside n i c v in
-                omega (arith, same-word n i m j c (omega (arith, s .0)) (s .1) v w, short n i c v, short m j c w);
-            valuesFit =
-                leb→le (valueWords t) valuesLength
-                (unless-passes _ _ (then-second _ _ (then-second _ _ (then-second _ _ (then-second _ _ parts)))))
+          wholeNodes = size .0;
+          someNode = size .1;
+          nodesFit = size .2;
+          ruleKnown = λ n h a. known-rule n (known n h) a;
+          terminalKnown = λ n h a. known-terminal n (known n h) a .0;
+          terminalIs = λ n h a. known-terminal n (known n h) a .1;
+          childHigher = λ n i c w. child-inside n i c w .0;
+          childNode = λ n i c w. child-inside n i c w .1;
+          unusedZero = λ n i h l s. slot-unused n i (slot-at n i (slots n h) (omega arith) s) l;
+          rootStart = eqb→eq _ _ (unless-passes _ _ (then-first _ _ (then-second _ _ parts)));
+          childSymbol = λ n i c w.
+              subst (λ (k : ℕ). symbolAtNode g t k ≡ symbolOf g (ruleOf t n) i) (w .names)
+              (fits-at n i (differs n (w .inside)) (w .first) (child-used n i c w));
+          parentOf = parent-of;
+          sameParent = λ n i m j c v w.
+              let s = child-inside n i c v in
+              omega (arith, same-word n i m j c (omega (arith, s .0)) (s .1) v w, short n i c v, short m j c w);
+          sameSlot = λ n i m j c v w.
+              let s = child-inside n i c v in
+              omega (arith, same-word n i m j c (omega (arith, s .0)) (s .1) v w, short n i c v, short m j c w);
+          valuesFit =
+              leb→le (valueWords t) valuesLength
+              (unless-passes _ _ (then-second _ _ (then-second _ _ (then-second _ _ (then-second _ _ parts)))));
         }

@@ -9,12 +9,30 @@ use native.Mathlib.Omega.{arith}
 use lib.Dec.{T, eqb, T-not}
 use Rattle.basics.proofs.TestLaws.{eq-T, tested, same-or-not}
 use Rattle.grammar.specs.Table.{
-    symbols, start, kind, attributes, nonterminal, inherited, rightLength, symbolOf, position, attribute, occurrence, inheritedAt
+  symbols,
+  start,
+  kind,
+  attributes,
+  nonterminal,
+  inherited,
+  rightLength,
+  symbolOf,
+  position,
+  attribute,
+  occurrence,
+  inheritedAt,
 }
 use Rattle.grammar.specs.WellFormed.{WellFormed, SymbolFormed, RuleFormed}
 use Rattle.grammar.proofs.AcceptedTable.{defining-occurs}
 use Rattle.grammar.proofs.OccurrenceLaws.{
-    none-inherited, occurs-inside, occurs-attribute, attribute-occurs, defining-left, defining-child, left-defining, child-defining
+  none-inherited,
+  occurs-inside,
+  occurs-attribute,
+  attribute-occurs,
+  defining-left,
+  defining-child,
+  left-defining,
+  child-defining,
 }
 use Rattle.trees.specs.Tree.{terminalMark, nodes, ruleOf, appliesRule, child, symbolAtNode, nodeAt, cell, valueWords}
 use Rattle.trees.specs.Formed.{ChildOf, Parent, TreeFormed}
@@ -73,7 +91,7 @@ module _ {g t : List ℕ} {l : ℕ} (table : WellFormed g) (tree : TreeFormed g 
   nonterminal-applies n h s =
       ⊎-elim (λ a. a)
       (λ a.
-          absurd (T-not (nonterminal g (ruleOf t n - terminalMark)) (tree .terminalIs n h a) (subst (λ (x : ℕ). T (nonterminal g x)) (terminal-symbol g t n a) s)))
+      absurd (T-not (nonterminal g (ruleOf t n - terminalMark)) (tree .terminalIs n h a) (subst (λ (x : ℕ). T (nonterminal g x)) (terminal-symbol g t n a) s)))
       (tested (appliesRule t n))
 
   -- the root applies a rule
@@ -108,10 +126,10 @@ module _ {g t : List ℕ} {l : ℕ} (table : WellFormed g) (tree : TreeFormed g 
   occurrence-attribute n o h a t′ =
       let i : position o ≤ rightLength g (ruleOf t n) = occurs-inside g (ruleOf t n) o t′ in
       record {
-          inside = node-at-inside n (position o) h a i;
-          exists =
-              subst⁻¹ (λ (x : ℕ). attribute o < attributes g x) (node-at-symbol n (position o) h a i)
-              (occurs-attribute g (ruleOf t n) o t′)
+        inside = node-at-inside n (position o) h a i;
+        exists =
+            subst⁻¹ (λ (x : ℕ). attribute o < attributes g x) (node-at-symbol n (position o) h a i)
+            (occurs-attribute g (ruleOf t n) o t′);
       }
 
   -- so its cell stands inside the values
@@ -148,15 +166,15 @@ module _ {g t : List ℕ} {l : ℕ} (table : WellFormed g) (tree : TreeFormed g 
     defined-applies =
         ⊎-elim (λ e. subst⁻¹ (λ (x : ℕ). T (appliesRule t x)) (node-left t n (position o) e) (w .applies))
         (λ e.
-            let x : ℕ = nodeAt t n (position o) in
-            let h : x < nodes t = node-at-inside n (position o) (w .inside) (w .applies) defined-position in
-            let f : SymbolFormed g (symbolAtNode g t x) = table .symbol (symbolAtNode g t x) (symbol-known x h) in
-            ⊎-elim (λ s. nonterminal-applies x h s)
-            (λ s.
-                let k : kind g (symbolAtNode g t x) ≡ 1 =
-                        omega (arith, f .kindFits, nonzero (kind g (symbolAtNode g t x)) s) in
-                absurd (none-inherited g (symbolAtNode g t x) (attribute o) (f .terminalMask k) (defined-inherited (omega arith))))
-            (tested (nonterminal g (symbolAtNode g t x))))
+        let x : ℕ = nodeAt t n (position o) in
+        let h : x < nodes t = node-at-inside n (position o) (w .inside) (w .applies) defined-position in
+        let f : SymbolFormed g (symbolAtNode g t x) = table .symbol (symbolAtNode g t x) (symbol-known x h) in
+        ⊎-elim (λ s. nonterminal-applies x h s)
+        (λ s.
+        let k : kind g (symbolAtNode g t x) ≡ 1 =
+        omega (arith, f .kindFits, nonzero (kind g (symbolAtNode g t x)) s) in
+        absurd (none-inherited g (symbolAtNode g t x) (attribute o) (f .terminalMask k) (defined-inherited (omega arith))))
+        (tested (nonterminal g (symbolAtNode g t x))))
         (same-or-not (position o) 0)
       where
         nonzero : (k : ℕ) → T (not (eqb k 0)) → 1 ≤ k
@@ -169,11 +187,14 @@ module _ {g t : List ℕ} {l : ℕ} (table : WellFormed g) (tree : TreeFormed g 
     where
       node : nodeAt t n (position o) ≡ nodeAt t m (position q)
       node = sym (cell-node t n o) ∙ (ap (λ (c : ℕ). c / 8) e ∙ cell-node t m q)
+
       attr : attribute o ≡ attribute q
       attr = sym (cell-attribute t n o) ∙ (ap (λ (c : ℕ). c % 8) e ∙ cell-attribute t m q)
+
       class : inherited g (symbolAtNode g t (nodeAt t n (position o))) (attribute o)
           ≡ inherited g (symbolAtNode g t (nodeAt t m (position q))) (attribute q)
       class = ap₂ (λ (x a : ℕ). inherited g (symbolAtNode g t x) a) node attr
+
       go : (position o ≡ 0) ⊎ (position o ≡ 0 → ⊥) → (position q ≡ 0) ⊎ (position q ≡ 0 → ⊥) → (n ≡ m) × (o ≡ q)
       go (inl a) (inl b) = (sym (node-left t n (position o) a) ∙ (node ∙ node-left t m (position q) b), omega (arith, attr))
       go (inl a) (inr b) =
@@ -182,10 +203,11 @@ module _ {g t : List ℕ} {l : ℕ} (table : WellFormed g) (tree : TreeFormed g 
           absurd (T-not (inherited g (symbolAtNode g t (nodeAt t m (position q))) (attribute q)) (defined-synthesized m q w b) (subst (λ (c : Bool). T c) class (defined-inherited n o v (omega arith))))
       go (inr a) (inr b) =
           let x : ChildOf g t n (position o) (nodeAt t m (position q)) =
-                  subst (λ (c : ℕ). ChildOf g t n (position o) c) node (defined-child n o v (omega arith)) in
-          let y : ChildOf g t m (position q) (nodeAt t m (position q)) = defined-child m q w (omega arith) in
-          (tree .sameParent n (position o) m (position q) _ x y,
-          omega (arith, attr, tree .sameSlot n (position o) m (position q) _ x y))
+          subst (λ (c : ℕ). ChildOf g t n (position o) c) node (defined-child n o v (omega arith)) in
+          let y : ChildOf g t m (position q) (nodeAt t m (position q)) = defined-child m q w (omega arith) in (
+            tree .sameParent n (position o) m (position q) _ x y,
+            omega (arith, attr, tree .sameSlot n (position o) m (position q) _ x y),
+          )
 
   module _ (n a : ℕ) (here : T (appliesRule t n)) (w : AttributeOf g t n a) where
     eight : a < 8
@@ -223,26 +245,30 @@ module _ {g t : List ℕ} {l : ℕ} (table : WellFormed g) (tree : TreeFormed g 
         ⊎-elim
         (λ s. inherits s (⊎-elim (λ e. absurd (root-none e s)) (λ h. tree .parentOf n h (w .inside)) (root-or-not n)))
         (λ s.
-            let k : 0 ≤ rightLength g (ruleOf t n) = omega arith in
-            record {
-                node = n; occurs = 8 * 0 + a;
-                definedAt = record {
-                    inside = w .inside; applies = here;
-                    isDefining =
-                        left-defining g (ruleOf t n) (8 * 0 + a) (occurs-there n 0 (w .inside) here k (node-left t n 0 refl)) (place 0 .0)
-                        (subst⁻¹ (λ (b : Bool). T (not b)) (class-there n 0 (w .inside) here k (node-left t n 0 refl)) s)
-                };
-                isCell = cell-there n 0 (w .inside) here k (node-left t n 0 refl)
-            })
+        let k : 0 ≤ rightLength g (ruleOf t n) = omega arith in
+        record {
+          node = n;
+          occurs = 8 * 0 + a;
+          definedAt = record {
+            inside = w .inside;
+            applies = here;
+            isDefining =
+                left-defining g (ruleOf t n) (8 * 0 + a) (occurs-there n 0 (w .inside) here k (node-left t n 0 refl)) (place 0 .0)
+                (subst⁻¹ (λ (b : Bool). T (not b)) (class-there n 0 (w .inside) here k (node-left t n 0 refl)) s);
+          };
+          isCell = cell-there n 0 (w .inside) here k (node-left t n 0 refl);
+        })
         (tested (inherited g (symbolAtNode g t n) a))
       where
         root-or-not : (n : ℕ) → (n ≡ 0) ⊎ (1 ≤ n)
         root-or-not zero = inl refl
         root-or-not (suc n) = inr (omega arith)
+
         root-none : n ≡ 0 → T (inherited g (symbolAtNode g t n) a) → ⊥
         root-none e s =
             none-inherited g (start g) a (table .startMask)
             (subst (λ (x : ℕ). T (inherited g x a)) (ap (λ (m : ℕ). symbolAtNode g t m) e ∙ tree .rootStart) s)
+
         inherits : T (inherited g (symbolAtNode g t n) a) → Parent g t n → Definer g t (8 * n + a)
         inherits s q =
             let m : ℕ = q .parent in
@@ -250,13 +276,15 @@ module _ {g t : List ℕ} {l : ℕ} (table : WellFormed g) (tree : TreeFormed g 
             let c : ChildOf g t m i n = q .isChild in
             let at : nodeAt t m i ≡ n = node-child t m i (c .first) ∙ c .names in
             record {
-                node = m; occurs = 8 * i + a;
-                definedAt = record {
-                    inside = c .inside; applies = c .applies;
-                    isDefining =
-                        child-defining g (ruleOf t m) (8 * i + a) (occurs-there m i (c .inside) (c .applies) (c .last) at)
-                        (omega (arith, place i .0, c .first))
-                        (subst⁻¹ (λ (b : Bool). T b) (class-there m i (c .inside) (c .applies) (c .last) at) s)
-                };
-                isCell = cell-there m i (c .inside) (c .applies) (c .last) at
+              node = m;
+              occurs = 8 * i + a;
+              definedAt = record {
+                inside = c .inside;
+                applies = c .applies;
+                isDefining =
+                    child-defining g (ruleOf t m) (8 * i + a) (occurs-there m i (c .inside) (c .applies) (c .last) at)
+                    (omega (arith, place i .0, c .first))
+                    (subst⁻¹ (λ (b : Bool). T b) (class-there m i (c .inside) (c .applies) (c .last) at) s);
+              };
+              isCell = cell-there m i (c .inside) (c .applies) (c .last) at;
             }

@@ -14,7 +14,7 @@ use Rattle.trees.specs.Equations.{valueAt, argumentValue, functionValue}
 
 module _ (g t : List ℕ) (v w : List ℤ) (n k : ℕ)
     (same : (j : ℕ) → j < arguments g (ruleOf t n) k
-        → valueAt v (cell t n (argument g (ruleOf t n) k j)) ≡ valueAt w (cell t n (argument g (ruleOf t n) k j))) where
+    → valueAt v (cell t n (argument g (ruleOf t n) k j)) ≡ valueAt w (cell t n (argument g (ruleOf t n) k j))) where
   same-argument : (j : ℕ) → argumentValue g t v n k j ≡ argumentValue g t w n k j
   unfolding argumentValue
   same-argument j = go (isConstant (operation g (ruleOf t n) k)) (ltb j (arguments g (ruleOf t n) k)) refl

@@ -16,10 +16,27 @@ use Rattle.grammar.specs.Table.{symbols, rules, start, symbolOf}
 use Rattle.grammar.specs.WellFormed.{WellFormed}
 use Rattle.grammar.proofs.VerdictLaws.{then-good, unless-good, each-good}
 use Rattle.trees.specs.Tree.{
-    mostNodes, terminalMark, nodes, ruleOf, appliesRule, child, usedSlots, symbolAtNode, valueWords
+  mostNodes,
+  terminalMark,
+  nodes,
+  ruleOf,
+  appliesRule,
+  child,
+  usedSlots,
+  symbolAtNode,
+  valueWords,
 }
 use Rattle.trees.specs.Checking.{
-    sizeFits, knownWord, slotFits, slotsFit, nodeFault, rootIsStart, childrenFit, namesNode, onceChild, checkTree
+  sizeFits,
+  knownWord,
+  slotFits,
+  slotsFit,
+  nodeFault,
+  rootIsStart,
+  childrenFit,
+  namesNode,
+  onceChild,
+  checkTree,
 }
 use Rattle.trees.specs.Formed.{ChildOf, Parent, TreeFormed}
 use Rattle.trees.proofs.AcceptedTree.{used-child, slot-names, names-slot, accepted-tree}
@@ -37,8 +54,8 @@ module _ (g t : List ℕ) (l : ℕ) (table : WellFormed g) (tree : TreeFormed g 
       ⊎-elim
       (λ a. subst⁻¹ (λ (b : Bool). T b) (chosen (appliesRule t n) _ _ a) (lt→ltb (ruleOf t n) (rules g) (tree .ruleKnown n h a)))
       (λ a.
-          subst⁻¹ (λ (b : Bool). T b) (passed-over (appliesRule t n) _ _ a)
-          (and-intro _ _ (lt→ltb (ruleOf t n - terminalMark) (symbols g) (tree .terminalKnown n h a)) (tree .terminalIs n h a)))
+      subst⁻¹ (λ (b : Bool). T b) (passed-over (appliesRule t n) _ _ a)
+      (and-intro _ _ (lt→ltb (ruleOf t n - terminalMark) (symbols g) (tree .terminalKnown n h a)) (tree .terminalIs n h a)))
       (tested (appliesRule t n))
 
   slot : (n i : ℕ) → n < nodes t → 1 ≤ i → i ≤ 7 → T (slotFits g t n i)
@@ -46,12 +63,12 @@ module _ (g t : List ℕ) (l : ℕ) (table : WellFormed g) (tree : TreeFormed g 
   slot n i h f s =
       ⊎-elim
       (λ u.
-          let c : ChildOf g t n i (child t n i) = used-child g t n i h f (leb→le i (usedSlots g t n) u) in
-          subst⁻¹ (λ (b : Bool). T b) (chosen (leb i (usedSlots g t n)) _ _ u)
-          (and-intro _ _ (lt→ltb n (child t n i) (tree .childHigher n i _ c)) (lt→ltb (child t n i) (nodes t) (tree .childNode n i _ c))))
+      let c : ChildOf g t n i (child t n i) = used-child g t n i h f (leb→le i (usedSlots g t n) u) in
+      subst⁻¹ (λ (b : Bool). T b) (chosen (leb i (usedSlots g t n)) _ _ u)
+      (and-intro _ _ (lt→ltb n (child t n i) (tree .childHigher n i _ c)) (lt→ltb (child t n i) (nodes t) (tree .childNode n i _ c))))
       (λ u.
-          subst⁻¹ (λ (b : Bool). T b) (passed-over (leb i (usedSlots g t n)) _ _ u)
-          (eq-T (child t n i) 0 (tree .unusedZero n i h (nleb→lt i (usedSlots g t n) u) s)))
+      subst⁻¹ (λ (b : Bool). T b) (passed-over (leb i (usedSlots g t n)) _ _ u)
+      (eq-T (child t n i) 0 (tree .unusedZero n i h (nleb→lt i (usedSlots g t n) u) s)))
       (tested (leb i (usedSlots g t n)))
 
   slots : (n : ℕ) → n < nodes t → T (slotsFit g t n)
@@ -81,8 +98,8 @@ module _ (g t : List ℕ) (l : ℕ) (table : WellFormed g) (tree : TreeFormed g 
           count-one (λ k. namesNode g t (suc n) k) (8 * nodes t) (8 * m + i) (omega (arith, w .inside))
           (slot-names g t m i (suc n) s w)
           (λ j h u.
-              let v : ChildOf g t (j / 8) (j % 8) (suc n) = names-slot g t (suc n) j h u in
-              omega (arith, tree .sameParent (j / 8) (j % 8) m i (suc n) v w, tree .sameSlot (j / 8) (j % 8) m i (suc n) v w))
+          let v : ChildOf g t (j / 8) (j % 8) (suc n) = names-slot g t (suc n) j h u in
+          omega (arith, tree .sameParent (j / 8) (j % 8) m i (suc n) v w, tree .sameSlot (j / 8) (j % 8) m i (suc n) v w))
 
   -- a well-formed tree is accepted
   pub formed-tree : checkTree g t l ≡ Good

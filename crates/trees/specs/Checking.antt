@@ -8,13 +8,27 @@ use lib.ListN.{length}
 use Rattle.basics.specs.Tests.{_and_, all, count}
 use Rattle.basics.specs.Lists.{word}
 use Rattle.refusals.specs.declared.Refusal.the-variants.{
-    TreeSize, NoSuchRule, BadChild, RootNotStart, ChildDiffers, NotOneParent, ValuesTooShort
+  TreeSize,
+  NoSuchRule,
+  BadChild,
+  RootNotStart,
+  ChildDiffers,
+  NotOneParent,
+  ValuesTooShort,
 }
 use Rattle.grammar.specs.declared.Verdict.{Verdict}
 use Rattle.grammar.specs.Table.{symbols, rules, start, nonterminal, symbolOf}
 use Rattle.grammar.specs.Verdicts.{_then_, unless, each}
 use Rattle.trees.specs.Tree.{
-    mostNodes, terminalMark, nodes, ruleOf, appliesRule, child, usedSlots, symbolAtNode, valueWords
+  mostNodes,
+  terminalMark,
+  nodes,
+  ruleOf,
+  appliesRule,
+  child,
+  usedSlots,
+  symbolAtNode,
+  valueWords,
 }
 
 -- 12: "tree words not a multiple of 8, or no nodes, or over 1,024"

@@ -9,7 +9,14 @@ use lib.IntN.{ℤ, pos}
 use lib.ListN.{getD}
 use Rattle.values.specs.Value.{result, constant}
 use Rattle.grammar.specs.Table.{
-    kind, attributes, functions, target, operation, argument, arguments, isConstant
+  kind,
+  attributes,
+  functions,
+  target,
+  operation,
+  argument,
+  arguments,
+  isConstant,
 }
 use Rattle.trees.specs.Tree.{nodes, ruleOf, appliesRule, symbolAtNode, cell}
 

@@ -8,7 +8,15 @@ use lib.Dec.{T}
 use lib.ListN.{length}
 use Rattle.grammar.specs.Table.{symbols, rules, start, nonterminal, rightLength, symbolOf}
 use Rattle.trees.specs.Tree.{
-    mostNodes, terminalMark, nodes, ruleOf, appliesRule, child, usedSlots, symbolAtNode, valueWords
+  mostNodes,
+  terminalMark,
+  nodes,
+  ruleOf,
+  appliesRule,
+  child,
+  usedSlots,
+  symbolAtNode,
+  valueWords,
 }
 
 -- node c is the child of node n at position i of its rule

@@ -34,9 +34,11 @@ minus-requires : tie.Need-minus-requires Inv-loop μ-loop
 minus-requires c κs = search needs
 
 loop-holds : tie.Need-loop-holds Inv-loop μ-loop
-loop-holds c =
-    (omega arith, definings-start _ _ (c .before .before .before .before .before .before .pre .1) _ _ _ _ (c .before .before .before .word
-    .ensures .0) (c .before .before .attribute-set .ensures) (c .before .inherited-set .ensures) (c .minus .ensures))
+loop-holds c = (
+  omega arith,
+  definings-start _ _ (c .before .before .before .before .before .before .pre .1) _ _ _ _ (c .before .before .before .word
+      .ensures .0) (c .before .before .attribute-set .ensures) (c .before .inherited-set .ensures) (c .minus .ensures),
+)
 
 add-word : tie.Need-add-word Inv-loop μ-loop
 add-word c = search needs
@@ -56,9 +58,9 @@ add-placed c = search needs
 placed-requires : tie.Need-placed-requires Inv-loop μ-loop
 placed-requires c κs =
     let inside : (c .before .before .before .loop .i) < lengthAt (c .before .before .before .before .before .before .before .before .before .before .args .words .now) (c .before .before .before .before .before .before .before .before .before .before .args .p) =
-        omega arith in
+    omega arith in
     let short : lengthAt (c .before .before .before .before .before .before .before .before .before .before .args .words .now) (c .before .before .before .before .before .before .before .before .before .before .args .p) ≤ 7 =
-        (c .before .before .before .before .before .before .before .before .before .before .pre .1 .short) in
+    (c .before .before .before .before .before .before .before .before .before .before .pre .1 .short) in
     (subst (λ (b : ℕ). b < 256) (sym (c .inherited-set2 .ensures)) (mask-small _ _ (c .before .before .before .before .before .before .before .before .before .before .pre .1) _ (formed-at _ _ (c .before .before .before .before .before .before .before .before .before .before .pre .1) _ _ inside (c .before .word2 .ensures .0))), omega arith)
 
 union-requires : tie.Need-union-requires Inv-loop μ-loop
@@ -73,7 +75,7 @@ loop-less c = search needs
 loop-again : tie.Need-loop-again Inv-loop μ-loop
 loop-again c =
     let inside : (c .before .before .before .before .before .loop .i) < lengthAt (c .before .before .before .before .before .before .before .before .before .before .before .before .args .words .now) (c .before .before .before .before .before .before .before .before .before .before .before .before .args .p) =
-        omega arith in
+    omega arith in
     (omega arith, definings-more _ _ (c .before .before .before .before .before .before .before .before .before .before .before .before .pre .1) _ _ _ _ _ _ inside (c .before .before .before .before .before .loop .inv .1) (c .before .before .before .word2 .ensures .0) (c .before .before .inherited-set2 .ensures) (c .before .placed .ensures) (c .union .ensures))
 
 returns : tie.Need-returns Inv-loop μ-loop

@@ -19,9 +19,11 @@ word-requires : tie.Need-word-requires
 word-requires c κs = search needs
 
 returns : tie.Need-returns
-returns c =
-    ((c .word .ensures .0) ∙ ap (λ (n : ℕ). getD (c .before .before .before .args .words .now) ((c .before .before .before .args .p) + 2 +
-    n) 0) (c .before .right-length .ensures .0), (c .word .ensures .1))
+returns c = (
+  (c .word .ensures .0) ∙ ap (λ (n : ℕ). getD (c .before .before .before .args .words .now) ((c .before .before .before .args .p) + 2 +
+      n) 0) (c .before .right-length .ensures .0),
+  (c .word .ensures .1),
+)
 
 pub function-count-spec : {M : Type 1} → statement M
 function-count-spec =

@@ -28,9 +28,11 @@ attribute-set-requires c κs =
     ((c .word .ensures .1), formed-left _ _ (c .before .before .before .pre .1) _ (c .word .ensures .0) .attributesFit)
 
 loop-holds : tie.Need-loop-holds Inv-loop μ-loop
-loop-holds c =
-    (omega arith, occurrences-start _ _ (c .before .before .before .before .pre .1) _ _ (c .before .word .ensures .0) (c .attribute-set
-    .ensures))
+loop-holds c = (
+  omega arith,
+  occurrences-start _ _ (c .before .before .before .before .pre .1) _ _ (c .before .word .ensures .0) (c .attribute-set
+      .ensures),
+)
 
 add-word : tie.Need-add-word Inv-loop μ-loop
 add-word c = search needs
@@ -44,7 +46,7 @@ word-requires-2 c κs = search needs
 attribute-set-requires-2 : tie.Need-attribute-set-requires-2 Inv-loop μ-loop
 attribute-set-requires-2 c κs =
     let inside : (c .before .before .loop .i) < lengthAt (c .before .before .before .before .before .before .before .args .words .now) (c .before .before .before .before .before .before .before .args .p) =
-        omega arith in
+    omega arith in
     ((c .word2 .ensures .1), formed-at _ _ (c .before .before .before .before .before .before .before .pre .1) _ _ inside (c .word2 .ensures .0) .attributesFit)
 
 add-placed : tie.Need-add-placed Inv-loop μ-loop
@@ -53,9 +55,9 @@ add-placed c = search needs
 placed-requires : tie.Need-placed-requires Inv-loop μ-loop
 placed-requires c κs =
     let inside : (c .before .before .before .loop .i) < lengthAt (c .before .before .before .before .before .before .before .before .args .words .now) (c .before .before .before .before .before .before .before .before .args .p) =
-        omega arith in
+    omega arith in
     let short : lengthAt (c .before .before .before .before .before .before .before .before .args .words .now) (c .before .before .before .before .before .before .before .before .args .p) ≤ 7 =
-        (c .before .before .before .before .before .before .before .before .pre .1 .short) in
+    (c .before .before .before .before .before .before .before .before .pre .1 .short) in
     (subst (λ (b : ℕ). b < 256) (sym (c .attribute-set2 .ensures)) (below-small _ (formed-at _ _ (c .before .before .before .before .before .before .before .before .pre .1) _ _ inside (c .before .word2 .ensures .0) .attributesFit)), omega arith)
 
 union-requires : tie.Need-union-requires Inv-loop μ-loop
@@ -70,7 +72,7 @@ loop-less c = search needs
 loop-again : tie.Need-loop-again Inv-loop μ-loop
 loop-again c =
     let inside : (c .before .before .before .before .before .loop .i) < lengthAt (c .before .before .before .before .before .before .before .before .before .before .args .words .now) (c .before .before .before .before .before .before .before .before .before .before .args .p) =
-        omega arith in
+    omega arith in
     (omega arith, occurrences-more _ _ (c .before .before .before .before .before .before .before .before .before .before .pre .1) _ _ _ _ _ _ inside (c .before .before .before .before .before .loop .inv .1) (c .before .before .before .word2 .ensures .0) (c .before .before .attribute-set2 .ensures) (c .before .placed .ensures) (c .union .ensures))
 
 returns : tie.Need-returns Inv-loop μ-loop

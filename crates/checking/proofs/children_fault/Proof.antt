@@ -38,9 +38,11 @@ loop-less : tie.Need-loop-less Inv-loop μ-loop
 loop-less c = search needs
 
 loop-again : tie.Need-loop-again Inv-loop μ-loop
-loop-again c =
-    (omega arith, each-more _ (λ m. childrenFault _ _ m) Good (c .before .before .before .loop .inv .1) (children-passed _ _ _ _ (c .before
-    .children-fit .ensures) (not-false _ (c .if1 .left))) refl)
+loop-again c = (
+  omega arith,
+  each-more _ (λ m. childrenFault _ _ m) Good (c .before .before .before .loop .inv .1) (children-passed _ _ _ _ (c .before
+      .children-fit .ensures) (not-false _ (c .if1 .left))) refl,
+)
 
 returns-2 : tie.Need-returns-2 Inv-loop μ-loop
 returns-2 c = search (each-end, arith)

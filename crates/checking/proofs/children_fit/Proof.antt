@@ -26,10 +26,14 @@ right-length-requires c κs = search (length-room, below-of-known)
 slots-match-requires : tie.Need-slots-match-requires
 slots-match-requires c κs =
     let rule = c .before .before .before in
-    let entry = rule .before .before .before .before in
-    (entry .pre .0, (entry .pre .1 .0,
-    rule-slots _ _ _ _ _ _ _ (entry .pre .0) (entry .pre .1 .0) (entry .pre .1 .1) (rule .before .word .ensures .0) (rule .if1 .taken)
-    (c .before .wide .ensures .0) (c .right-length .ensures .0)))
+    let entry = rule .before .before .before .before in (
+      entry .pre .0,
+      (
+        entry .pre .1 .0,
+        rule-slots _ _ _ _ _ _ _ (entry .pre .0) (entry .pre .1 .0) (entry .pre .1 .1) (rule .before .word .ensures .0) (rule .if1 .taken)
+            (c .before .wide .ensures .0) (c .right-length .ensures .0),
+      ),
+    )
 
 returns : tie.Need-returns
 returns c =

@@ -54,16 +54,17 @@ loop-less : tie.Need-loop-less Inv-loop μ-loop
 loop-less c = search needs
 
 loop-again : tie.Need-loop-again Inv-loop μ-loop
-loop-again c = 
-    (search needs,
-    gather-turn (c .before .before .before .before .before .before .before .args .rows .now) (c .before .before .before .before .before .before .before .args .base)
-    (c .before .before .before .before .before .before .before .args .i) (c .before .before .before .before .before .loop .a)
-    (c .before .before .before .before .before .loop .arcs) (c .before .before .field .result) (c .before .raised .result) (c .union .result)
-    (omega arith) (c .before .before .before .before .before .loop .inv .1) (c .before .before .field .ensures) (c .before .raised .ensures)
-    (c .union .ensures))
+loop-again c = (
+  search needs,
+  gather-turn (c .before .before .before .before .before .before .before .args .rows .now) (c .before .before .before .before .before .before .before .args .base)
+      (c .before .before .before .before .before .before .before .args .i) (c .before .before .before .before .before .loop .a)
+      (c .before .before .before .before .before .loop .arcs) (c .before .before .field .result) (c .before .raised .result) (c .union .result)
+      (omega arith) (c .before .before .before .before .before .loop .inv .1) (c .before .before .field .ensures) (c .before .raised .ensures)
+      (c .union .ensures),
+)
 
 returns : tie.Need-returns Inv-loop μ-loop
-returns c = 
+returns c =
     gathered (c .before .before .before .args .rows .now) (c .before .before .before .args .base) (c .before .before .before .args .i)
     (c .before .before .before .args .count) (c .before .loop .arcs) (c .before .loop .a) (c .before .loop .inv .1) (omega arith)
 

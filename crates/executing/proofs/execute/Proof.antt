@@ -4,8 +4,20 @@
 use native.Mathlib.Omega.{arith}
 use borrow.Author.Needs.{needs}
 use Rattle.executing.proofs.RunLaws.{
-    Left, some-node, left-start, stopped-answer, stopped-values, valued, cell-there, child-there, parent-there, turn-compute, turn-visit, turn-leave,
-    done-answer, done-values
+  Left,
+  some-node,
+  left-start,
+  stopped-answer,
+  stopped-values,
+  valued,
+  cell-there,
+  child-there,
+  parent-there,
+  turn-compute,
+  turn-visit,
+  turn-leave,
+  done-answer,
+  done-values,
 }
 use Rattle.executing.proofs.execute.Statement.{statement}
 use Rattle.executing.proofs.execute.Tie as tie
@@ -36,7 +48,11 @@ loop-holds c =
     let pre = entry .before .before .before .pre in
     left-start
     (record {
-        good = pre .0; sound = pre .1 .1 .0; planned = pre .1 .1 .1 .0; tree = pre .1 .1 .1 .1; located = c .before .function-starts .ensures
+      good = pre .0;
+      sound = pre .1 .1 .0;
+      planned = pre .1 .1 .1 .0;
+      tree = pre .1 .1 .1 .1;
+      located = c .before .function-starts .ensures;
     })
     (c .rule-of .ensures .0) _
 
@@ -77,9 +93,10 @@ compute-requires : tie.Need-compute-requires Inv-loop μ-loop
 compute-requires c κs =
     let read = c .before .before .before in
     let inv = read .before .before .before .loop .inv in
-    let more = read .before .before .if1 .left in
-    (valued inv more (read .wide .ensures .0) (c .before .before .if2 .taken) (c .before .wide2 .ensures .0),
-    (search needs, cell-there inv more (read .wide .ensures .0) (c .before .before .if2 .taken)))
+    let more = read .before .before .if1 .left in (
+      valued inv more (read .wide .ensures .0) (c .before .before .if2 .taken) (c .before .wide2 .ensures .0),
+      (search needs, cell-there inv more (read .wide .ensures .0) (c .before .before .if2 .taken)),
+    )
 
 add-at-2 : tie.Need-add-at-2 Inv-loop μ-loop
 add-at-2 c = search needs
@@ -139,9 +156,11 @@ mul-wide-4 c = search needs
 array-read-wide-2 : tie.Need-array-read-wide-2 Inv-loop μ-loop
 array-read-wide-2 c =
     let read = c .before .before .before .before in
-    omega (arith,
-    child-there (read .before .before .before .loop .inv) (read .before .before .if1 .left) (read .wide .ensures .0) (omega arith) (omega arith)
-    (c .before .child .ensures .0))
+    omega (
+      arith,
+      child-there (read .before .before .before .loop .inv) (read .before .before .if1 .left) (read .wide .ensures .0) (omega arith) (omega arith)
+          (c .before .child .ensures .0),
+    )
 
 wide-requires-3 : tie.Need-wide-requires-3 Inv-loop μ-loop
 wide-requires-3 c κs = search needs
@@ -187,9 +206,10 @@ returns-2 : tie.Need-returns-2 Inv-loop μ-loop
 returns-2 c =
     let read = c .before .before .before in
     let inv = read .before .before .before .loop .inv in
-    let more = read .before .before .if1 .left in
-    (done-answer inv more (read .wide .ensures .0) (omega arith) (omega arith),
-    done-values inv more (read .wide .ensures .0) (omega arith) (omega arith))
+    let more = read .before .before .if1 .left in (
+      done-answer inv more (read .wide .ensures .0) (omega arith) (omega arith),
+      done-values inv more (read .wide .ensures .0) (omega arith) (omega arith),
+    )
 
 sub-depth : tie.Need-sub-depth Inv-loop μ-loop
 sub-depth c = search needs

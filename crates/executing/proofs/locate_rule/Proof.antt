@@ -24,10 +24,12 @@ function-count-requires c κs =
     omega (arith, rule-fits (c .before .before .args .words .now) (c .before .before .args .r) (c .before .before .pre .0) (omega arith))
 
 loop-holds : tie.Need-loop-holds Inv-loop μ-loop
-loop-holds c =
-    (functions-counted _ _ _ _ (c .before .before .before .pre .1 .0 .1) (c .function-count .ensures .0), locating-start _ _ _ _ _ (c
-    .before .before .before .pre .0) (c .before .before .before .pre .1 .0 .0) (c .before .before .before .pre .1 .0 .1) (c .before .before
-    .before .pre .1 .1) (c .before .first-function .ensures .0))
+loop-holds c = (
+  functions-counted _ _ _ _ (c .before .before .before .pre .1 .0 .1) (c .function-count .ensures .0),
+  locating-start _ _ _ _ _ (c
+      .before .before .before .pre .0) (c .before .before .before .pre .1 .0 .0) (c .before .before .before .pre .1 .0 .1) (c .before .before
+      .before .pre .1 .1) (c .before .first-function .ensures .0),
+)
 
 word-requires : tie.Need-word-requires Inv-loop μ-loop
 word-requires c κs = search needs
@@ -59,9 +61,11 @@ loop-less : tie.Need-loop-less Inv-loop μ-loop
 loop-less c = search needs
 
 loop-again : tie.Need-loop-again Inv-loop μ-loop
-loop-again c =
-    ((c .before .before .before .loop .inv .0), locating-turn _ _ _ _ _ _ _ _ _ (c .before .before .before .loop .inv .1) (c .before
-    .before .before .loop .inv .0) (c .before .before .loop-test .taken) (c .before .word .ensures .0) (c .next-function .ensures .0))
+loop-again c = (
+  (c .before .before .before .loop .inv .0),
+  locating-turn _ _ _ _ _ _ _ _ _ (c .before .before .before .loop .inv .1) (c .before
+      .before .before .loop .inv .0) (c .before .before .loop-test .taken) (c .before .word .ensures .0) (c .next-function .ensures .0),
+)
 
 returns : tie.Need-returns Inv-loop μ-loop
 returns c = locating-finish _ _ _ _ _ _ _ (c .before .loop .inv .1) (c .before .loop .inv .0) (c .loop-test .left)

@@ -35,10 +35,12 @@ loop-less : tie.Need-loop-less Inv-loop μ-loop
 loop-less c = search needs
 
 loop-again : tie.Need-loop-again Inv-loop μ-loop
-loop-again c =
-    (search needs, ⊎-elim (λ w. w .2 ∙ collect-with (λ k. descends _ _ _ k) _ _ (w .1 .result) _ (c .before .before .before .loop .inv .1)
-    (c .before .descends .ensures) (w .0 .taken) (w .1 .ensures)) (λ w. w .1 ∙ collect-over (λ k. descends _ _ _ k) _ _ _ (c .before
-    .before .before .loop .inv .1) (c .before .descends .ensures) (w .0 .left)) (c .if1 .came))
+loop-again c = (
+  search needs,
+  ⊎-elim (λ w. w .2 ∙ collect-with (λ k. descends _ _ _ k) _ _ (w .1 .result) _ (c .before .before .before .loop .inv .1)
+      (c .before .descends .ensures) (w .0 .taken) (w .1 .ensures)) (λ w. w .1 ∙ collect-over (λ k. descends _ _ _ k) _ _ _ (c .before
+      .before .before .loop .inv .1) (c .before .descends .ensures) (w .0 .left)) (c .if1 .came),
+)
 
 returns : tie.Need-returns Inv-loop μ-loop
 returns c =

@@ -22,14 +22,19 @@ word-requires : tie.Need-word-requires Inv-loop μ-loop
 word-requires c κs = search needs
 
 loop-holds : tie.Need-loop-holds Inv-loop μ-loop
-loop-holds c =
-    (search needs, extending-start _ (c .before .before .before .before .pre .0) _ (c .before .before .before .before .pre .1 .1 .1 .0) (c
-    .before .before .before .before .pre .1 .1 .1 .1))
+loop-holds c = (
+  search needs,
+  extending-start _ (c .before .before .before .before .pre .0) _ (c .before .before .before .before .pre .1 .1 .1 .0) (c
+      .before .before .before .before .pre .1 .1 .1 .1),
+)
 
 rule-at-requires : tie.Need-rule-at-requires Inv-loop μ-loop
 rule-at-requires c κs =
-    omega (arith, few-rules (c .before .before .before .before .before .before .args .words .now) (c .before .before .before .before
-    .before .before .pre .0) (c .before .before .word .result) (c .before .before .word .ensures .0))
+    omega (
+      arith,
+      few-rules (c .before .before .before .before .before .before .args .words .now) (c .before .before .before .before
+          .before .before .pre .0) (c .before .before .word .result) (c .before .before .word .ensures .0),
+    )
 
 mul-spread : tie.Need-mul-spread Inv-loop μ-loop
 mul-spread c = search needs
@@ -37,21 +42,31 @@ mul-spread c = search needs
 occurrence-set-requires : tie.Need-occurrence-set-requires Inv-loop μ-loop
 occurrence-set-requires c κs =
     let w = (ruled _ (c .before .before .before .before .before .before .before .before .pre .0) _ _ (omega arith) (offset-is _ _ _ _ (c
-    .before .before .before .before .before .before .before .before .pre .1 .0) (omega arith) (c .before .rule-at .ensures))) in (w .near,
-    w .shaped)
+    .before .before .before .before .before .before .before .before .pre .1 .0) (omega arith) (c .before .rule-at .ensures))) in (
+      w .near,
+      w .shaped,
+    )
 
 spread-requires : tie.Need-spread-requires Inv-loop μ-loop
-spread-requires c κs =
-    (omega (arith, (c .before .before .before .before .before .loop .inv .1 .holds .room)), ((ruled _ (c .before .before .before .before
-    .before .before .before .before .before .before .pre .0) _ _ (omega arith) (offset-is _ _ _ _ (c .before .before .before .before
-    .before .before .before .before .before .before .pre .1 .0) (omega arith) (c .before .before .before .rule-at .ensures))), (down-fits _
-    (c .before .before .before .before .before .before .before .before .before .before .pre .0) _ _ _ _ _ (c .before .before .before
-    .before .before .before .before .order .ensures) (c .before .before .before .before .before .before .before .before .before .before
-    .pre .1 .1 .0) (omega arith) (offset-is _ _ _ _ (c .before .before .before .before .before .before .before .before .before .before .pre
-    .1 .0) (omega arith) (c .before .before .before .rule-at .ensures)) (c .before .occurrence-set .ensures), kept-at _ _ _ _ _ _ _ (c
-    .before .before .before .before .before .loop .inv .1 .holds) (omega arith) (offset-is _ _ _ _ (c .before .before .before .before
-    .before .before .before .before .before .before .pre .1 .0) (omega arith) (c .before .before .before .rule-at .ensures)) (c .before
-    .occurrence-set .ensures))))
+spread-requires c κs = (
+  omega (arith, (c .before .before .before .before .before .loop .inv .1 .holds .room)),
+  (
+    (ruled _ (c .before .before .before .before
+        .before .before .before .before .before .before .pre .0) _ _ (omega arith) (offset-is _ _ _ _ (c .before .before .before .before
+        .before .before .before .before .before .before .pre .1 .0) (omega arith) (c .before .before .before .rule-at .ensures))),
+    (
+      down-fits _
+          (c .before .before .before .before .before .before .before .before .before .before .pre .0) _ _ _ _ _ (c .before .before .before
+          .before .before .before .before .order .ensures) (c .before .before .before .before .before .before .before .before .before .before
+          .pre .1 .1 .0) (omega arith) (offset-is _ _ _ _ (c .before .before .before .before .before .before .before .before .before .before .pre
+          .1 .0) (omega arith) (c .before .before .before .rule-at .ensures)) (c .before .occurrence-set .ensures),
+      kept-at _ _ _ _ _ _ _ (c
+          .before .before .before .before .before .loop .inv .1 .holds) (omega arith) (offset-is _ _ _ _ (c .before .before .before .before
+          .before .before .before .before .before .before .pre .1 .0) (omega arith) (c .before .before .before .rule-at .ensures)) (c .before
+          .occurrence-set .ensures),
+    ),
+  ),
+)
 
 add-r : tie.Need-add-r Inv-loop μ-loop
 add-r c = search needs
@@ -60,14 +75,16 @@ loop-less : tie.Need-loop-less Inv-loop μ-loop
 loop-less c = search needs
 
 loop-again : tie.Need-loop-again Inv-loop μ-loop
-loop-again c =
-    (search needs, extending-turn _ (c .before .before .before .before .before .before .before .before .before .before .before .before
-    .before .pre .0) _ _ _ _ _ _ _ _ (c .before .before .before .before .before .before .before .before .loop .inv .1) (omega arith)
-    (offset-is _ _ _ _ (c .before .before .before .before .before .before .before .before .before .before .before .before .before .pre .1
-    .0) (omega arith) (c .before .before .before .before .before .before .rule-at .ensures)) (c .before .before .before .before
-    .occurrence-set .ensures) (c .before .before .before .before .before .before .before .before .before .before .order .ensures) (c
-    .before .before .before .before .before .before .before .before .before .before .before .before .before .pre .1 .1 .0) (c .before
-    .before .spread .ensures))
+loop-again c = (
+  search needs,
+  extending-turn _ (c .before .before .before .before .before .before .before .before .before .before .before .before
+      .before .pre .0) _ _ _ _ _ _ _ _ (c .before .before .before .before .before .before .before .before .loop .inv .1) (omega arith)
+      (offset-is _ _ _ _ (c .before .before .before .before .before .before .before .before .before .before .before .before .before .pre .1
+      .0) (omega arith) (c .before .before .before .before .before .before .rule-at .ensures)) (c .before .before .before .before
+      .occurrence-set .ensures) (c .before .before .before .before .before .before .before .before .before .before .order .ensures) (c
+      .before .before .before .before .before .before .before .before .before .before .before .before .before .pre .1 .1 .0) (c .before
+      .before .spread .ensures),
+)
 
 same-length : tie.Need-same-length Inv-loop μ-loop
 same-length c = search needs

@@ -23,27 +23,37 @@ loop-holds c = (search needs, order-start (c .before .before .args .words .now) 
 
 mul-descents : tie.Need-mul-descents Inv-loop μ-loop
 mul-descents c =
-    omega (arith, few-symbols (c .before .before .before .before .args .words .now) (c .before .before .before .before .pre) (c .before
-    .before .word .result) (c .before .before .word .ensures .0))
+    omega (
+      arith,
+      few-symbols (c .before .before .before .before .args .words .now) (c .before .before .before .before .pre) (c .before
+          .before .word .result) (c .before .before .word .ensures .0),
+    )
 
 attributes-requires : tie.Need-attributes-requires Inv-loop μ-loop
 attributes-requires c κs =
-    omega (arith, few-symbols (c .before .before .before .before .args .words .now) (c .before .before .before .before .pre) (c .before
-    .before .word .result) (c .before .before .word .ensures .0))
+    omega (
+      arith,
+      few-symbols (c .before .before .before .before .args .words .now) (c .before .before .before .before .pre) (c .before
+          .before .word .result) (c .before .before .word .ensures .0),
+    )
 
 descents-requires : tie.Need-descents-requires Inv-loop μ-loop
-descents-requires c κs =
-    (omega (arith, few-symbols _ (c .before .before .before .before .before .pre) _ (c .before .before .before .word .ensures .0)),
-    few-attributes _ (c .before .before .before .before .before .pre) _ _ _ (c .before .before .before .word .ensures .0) (omega arith) (c
-    .attributes .ensures .0))
+descents-requires c κs = (
+  omega (arith, few-symbols _ (c .before .before .before .before .before .pre) _ (c .before .before .before .word .ensures .0)),
+  few-attributes _ (c .before .before .before .before .before .pre) _ _ _ (c .before .before .before .word .ensures .0) (omega arith) (c
+      .attributes .ensures .0),
+)
 
 mul-arcs : tie.Need-mul-arcs Inv-loop μ-loop
 mul-arcs c = search needs
 
 array-write-arcs : tie.Need-array-write-arcs Inv-loop μ-loop
 array-write-arcs c =
-    omega (arith, few-symbols (c .before .before .before .before .before .before .args .words .now) (c .before .before .before .before
-    .before .before .pre) (c .before .before .before .before .word .result) (c .before .before .before .before .word .ensures .0))
+    omega (
+      arith,
+      few-symbols (c .before .before .before .before .before .before .args .words .now) (c .before .before .before .before
+          .before .before .pre) (c .before .before .before .before .word .result) (c .before .before .before .before .word .ensures .0),
+    )
 
 add-x : tie.Need-add-x Inv-loop μ-loop
 add-x c = search needs
@@ -52,10 +62,15 @@ loop-less : tie.Need-loop-less Inv-loop μ-loop
 loop-less c = search needs
 
 loop-again : tie.Need-loop-again Inv-loop μ-loop
-loop-again c =
-    (search needs, order-turn _ _ _ _ _ _ (c .before .before .before .loop .inv .1) (omega (arith, few-symbols _ (c .before .before .before
-    .before .before .before .pre) _ (c .before .before .before .before .word .ensures .0))) (c .before .attributes .ensures .0) (c
-    .descents .ensures))
+loop-again c = (
+  search needs,
+  order-turn _ _ _ _ _ _ (c .before .before .before .loop .inv .1) (omega (
+    arith,
+    few-symbols _ (c .before .before .before
+        .before .before .before .pre) _ (c .before .before .before .before .word .ensures .0),
+  )) (c .before .attributes .ensures .0) (c
+      .descents .ensures),
+)
 
 returns : tie.Need-returns Inv-loop μ-loop
 returns c = order-end _ _ _ _ _ (c .before .loop .inv .1) (c .before .before .word .ensures .0) (omega arith) (omega arith)

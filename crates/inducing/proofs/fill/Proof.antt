@@ -18,14 +18,19 @@ word-requires : tie.Need-word-requires Inv-loop μ-loop
 word-requires c κs = search needs
 
 loop-holds : tie.Need-loop-holds Inv-loop μ-loop
-loop-holds c =
-    (search needs, filling-start (c .before .before .before .args .words .now) (c .before .before .before .args .rows .now) (c .before
-    .before .before .pre .1 .1 .0) (c .before .before .before .pre .1 .1 .1))
+loop-holds c = (
+  search needs,
+  filling-start (c .before .before .before .args .words .now) (c .before .before .before .args .rows .now) (c .before
+      .before .before .pre .1 .1 .0) (c .before .before .before .pre .1 .1 .1),
+)
 
 rule-at-requires : tie.Need-rule-at-requires Inv-loop μ-loop
 rule-at-requires c κs =
-    omega (arith, few-rules (c .before .before .before .before .before .args .words .now) (c .before .before .before .before .before .pre
-    .0) (c .before .before .word .result) (c .before .before .word .ensures .0))
+    omega (
+      arith,
+      few-rules (c .before .before .before .before .before .args .words .now) (c .before .before .before .before .before .pre
+          .0) (c .before .before .word .result) (c .before .before .word .ensures .0),
+    )
 
 mul-fill-rule : tie.Need-mul-fill-rule Inv-loop μ-loop
 mul-fill-rule c = search needs
@@ -38,12 +43,17 @@ occurrence-set-requires c κs =
 fill-rule-requires : tie.Need-fill-rule-requires Inv-loop μ-loop
 fill-rule-requires c κs =
     let w = (ruled _ (c .before .before .before .before .before .before .before .before .pre .0) _ _ (omega arith) (offset-is _ _ _ _ (c
-    .before .before .before .before .before .before .before .before .pre .1 .0) (omega arith) (c .before .before .rule-at .ensures))) in
-    ((w .near, w .few, omega (arith, (c .before .before .before .before .loop .inv .1 .holds .room))), (functions-fit _ (c .before .before
-    .before .before .before .before .before .before .pre .0) _ _ _ (omega arith) (offset-is _ _ _ _ (c .before .before .before .before
-    .before .before .before .before .pre .1 .0) (omega arith) (c .before .before .rule-at .ensures)) (c .occurrence-set .ensures), kept-at
-    _ _ _ _ _ _ _ (c .before .before .before .before .loop .inv .1 .holds) (omega arith) (offset-is _ _ _ _ (c .before .before .before
-    .before .before .before .before .before .pre .1 .0) (omega arith) (c .before .before .rule-at .ensures)) (c .occurrence-set .ensures)))
+    .before .before .before .before .before .before .before .before .pre .1 .0) (omega arith) (c .before .before .rule-at .ensures))) in (
+      (w .near, w .few, omega (arith, (c .before .before .before .before .loop .inv .1 .holds .room))),
+      (
+        functions-fit _ (c .before .before
+            .before .before .before .before .before .before .pre .0) _ _ _ (omega arith) (offset-is _ _ _ _ (c .before .before .before .before
+            .before .before .before .before .pre .1 .0) (omega arith) (c .before .before .rule-at .ensures)) (c .occurrence-set .ensures),
+        kept-at
+            _ _ _ _ _ _ _ (c .before .before .before .before .loop .inv .1 .holds) (omega arith) (offset-is _ _ _ _ (c .before .before .before
+            .before .before .before .before .before .pre .1 .0) (omega arith) (c .before .before .rule-at .ensures)) (c .occurrence-set .ensures),
+      ),
+    )
 
 add-r : tie.Need-add-r Inv-loop μ-loop
 add-r c = search needs
@@ -52,11 +62,13 @@ loop-less : tie.Need-loop-less Inv-loop μ-loop
 loop-less c = search needs
 
 loop-again : tie.Need-loop-again Inv-loop μ-loop
-loop-again c =
-    (search needs, filling-turn _ (c .before .before .before .before .before .before .before .before .before .before .before .pre .0) _ _ _
-    _ _ _ (c .before .before .before .before .before .before .before .loop .inv .1) (omega arith) (offset-is _ _ _ _ (c .before .before
-    .before .before .before .before .before .before .before .before .before .pre .1 .0) (omega arith) (c .before .before .before .before
-    .before .rule-at .ensures)) (c .before .before .before .occurrence-set .ensures) (c .before .before .fill-rule .ensures))
+loop-again c = (
+  search needs,
+  filling-turn _ (c .before .before .before .before .before .before .before .before .before .before .before .pre .0) _ _ _
+      _ _ _ (c .before .before .before .before .before .before .before .loop .inv .1) (omega arith) (offset-is _ _ _ _ (c .before .before
+      .before .before .before .before .before .before .before .before .before .pre .1 .0) (omega arith) (c .before .before .before .before
+      .before .rule-at .ensures)) (c .before .before .before .occurrence-set .ensures) (c .before .before .fill-rule .ensures),
+)
 
 same-length : tie.Need-same-length Inv-loop μ-loop
 same-length c = search needs

@@ -2,7 +2,13 @@
 use Prim.Native.Nat.{_≤_, _-_}
 use borrow.Author.Needs.{needs}
 use Rattle.inducing.proofs.FillLaws.{
-    argument-small, target-small, Sources, sources-start, sources-turn, function-inside, function-closes
+  argument-small,
+  target-small,
+  Sources,
+  sources-start,
+  sources-turn,
+  function-inside,
+  function-closes,
 }
 use Rattle.inducing.proofs.fill_function.Statement.{statement}
 use Rattle.inducing.proofs.fill_function.Tie as tie
@@ -33,9 +39,13 @@ word-requires-2 c κs = search needs
 
 with-requires : tie.Need-with-requires Inv-loop μ-loop
 with-requires c κs =
-    search
-    (argument-small, needs, (c .before .before .before .before .before .before .before .pre .1 .0),
-    (c .before .before .before .argument-count .ensures .0), (c .word2 .ensures .0))
+    search (
+      argument-small,
+      needs,
+      (c .before .before .before .before .before .before .before .pre .1 .0),
+      (c .before .before .before .argument-count .ensures .0),
+      (c .word2 .ensures .0),
+    )
 
 add-j : tie.Need-add-j Inv-loop μ-loop
 add-j c = search needs

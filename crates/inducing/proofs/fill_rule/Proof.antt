@@ -27,10 +27,15 @@ loop-holds : tie.Need-loop-holds Inv-loop μ-loop
 loop-holds c = (search needs, search needs, search needs, search rule-start)
 
 fill-function-requires : tie.Need-fill-function-requires Inv-loop μ-loop
-fill-function-requires c κs =
-    ((search needs, (c .before .before .loop .inv .3 .kept .room)), (function-fits _ _ _ _ _ _ (c .before .before .before .before .before
-    .before .before .pre .1 .0) (omega arith) (c .before .before .before .before .function-count .ensures .0) (c .before .before .loop .inv
-    .1), (c .before .before .loop .inv .3 .kept)))
+fill-function-requires c κs = (
+  (search needs, (c .before .before .loop .inv .3 .kept .room)),
+  (
+    function-fits _ _ _ _ _ _ (c .before .before .before .before .before
+        .before .before .pre .1 .0) (omega arith) (c .before .before .before .before .function-count .ensures .0) (c .before .before .loop .inv
+        .1),
+    (c .before .before .loop .inv .3 .kept),
+  ),
+)
 
 next-function-requires : tie.Need-next-function-requires Inv-loop μ-loop
 next-function-requires c κs = search needs
@@ -42,11 +47,15 @@ loop-less : tie.Need-loop-less Inv-loop μ-loop
 loop-less c = search needs
 
 loop-again : tie.Need-loop-again Inv-loop μ-loop
-loop-again c =
-    (search needs, search next-place, search needs, rule-turn _ _ _ _ _ _ _ _ _ _ (c .before .before .before .before .before .before .loop
-    .inv .3) (search needs) (c .before .before .before .before .before .before .before .before .before .before .before .pre .1 .0) (omega
-    arith) (c .before .before .before .before .before .before .before .before .function-count .ensures .0) (c .before .before .before
-    .before .before .before .loop .inv .1) (c .before .before .before .fill-function .ensures))
+loop-again c = (
+  search needs,
+  search next-place,
+  search needs,
+  rule-turn _ _ _ _ _ _ _ _ _ _ (c .before .before .before .before .before .before .loop
+      .inv .3) (search needs) (c .before .before .before .before .before .before .before .before .before .before .before .pre .1 .0) (omega
+      arith) (c .before .before .before .before .before .before .before .before .function-count .ensures .0) (c .before .before .before
+      .before .before .before .loop .inv .1) (c .before .before .before .fill-function .ensures),
+)
 
 same-length : tie.Need-same-length Inv-loop μ-loop
 same-length c = search needs

@@ -50,9 +50,12 @@ loop-less : tie.Need-loop-less Inv-loop μ-loop Inv-search μ-search
 loop-less c = search needs
 
 loop-again : tie.Need-loop-again Inv-loop μ-loop Inv-search μ-search
-loop-again c =
-    (search needs, (c .before .before .before .before .loop .inv .1), row-passed _ (c .before .before .before .before .before .before
-    .search .r) _ _ (c .before .before .before .before .loop .inv .2) (c .before .has .ensures) (c .if1 .left))
+loop-again c = (
+  search needs,
+  (c .before .before .before .before .loop .inv .1),
+  row-passed _ (c .before .before .before .before .before .before
+      .search .r) _ _ (c .before .before .before .before .loop .inv .2) (c .before .has .ensures) (c .if1 .left),
+)
 
 add-r : tie.Need-add-r Inv-loop μ-loop Inv-search μ-search
 add-r c = search needs
@@ -61,9 +64,12 @@ search-less : tie.Need-search-less Inv-loop μ-loop Inv-search μ-search
 search-less c = search needs
 
 search-again : tie.Need-search-again Inv-loop μ-loop Inv-search μ-search
-search-again c =
-    (search needs, (c .before .loop .inv .1), rule-passed (c .before .before .before .before .before .args .rows .now) (c .before .before
-    .before .search .r) (c .before .loop .o) (c .before .before .before .search .inv .2) (c .before .loop .inv .2) (omega arith))
+search-again c = (
+  search needs,
+  (c .before .loop .inv .1),
+  rule-passed (c .before .before .before .before .before .args .rows .now) (c .before .before
+      .before .search .r) (c .before .loop .o) (c .before .before .before .search .inv .2) (c .before .loop .inv .2) (omega arith),
+)
 
 returns : tie.Need-returns Inv-loop μ-loop Inv-search μ-search
 returns c =

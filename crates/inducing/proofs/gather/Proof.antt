@@ -29,11 +29,14 @@ attributes-requires : tie.Need-attributes-requires Inv-loop μ-loop
 attributes-requires c κs = search needs
 
 arcs-at-requires : tie.Need-arcs-at-requires Inv-loop μ-loop
-arcs-at-requires c κs =
-    (search needs, position-small _ _ (c .before .before .before .before .before .before .before .pre .1) _ _ _ (c .before .before .before
-    .before .right-length .ensures .0) (omega arith) (c .before .symbol-of .ensures .0), count-small _ _ (c .before .before .before .before
-    .before .before .before .pre .1) _ _ _ (c .before .before .before .before .right-length .ensures .0) (omega arith) (c .before
-    .symbol-of .ensures .0) _ (c .attributes .ensures .0))
+arcs-at-requires c κs = (
+  search needs,
+  position-small _ _ (c .before .before .before .before .before .before .before .pre .1) _ _ _ (c .before .before .before
+      .before .right-length .ensures .0) (omega arith) (c .before .symbol-of .ensures .0),
+  count-small _ _ (c .before .before .before .before
+      .before .before .before .pre .1) _ _ _ (c .before .before .before .before .right-length .ensures .0) (omega arith) (c .before
+      .symbol-of .ensures .0) _ (c .attributes .ensures .0),
+)
 
 mul-union : tie.Need-mul-union Inv-loop μ-loop
 mul-union c = search needs
@@ -62,13 +65,20 @@ loop-less : tie.Need-loop-less Inv-loop μ-loop
 loop-less c = search needs
 
 loop-again : tie.Need-loop-again Inv-loop μ-loop
-loop-again c =
-    (search needs, gather-turn _ _ _ _ _ _ _ _ _ _ _ (c .before .before .before .before .before .before .loop .inv .1) (omega (arith, (c
-    .before .before .before .before .before .before .loop .inv .1 .size), (c .before .before .before .before .before .before .before
-    .before .before .before .pre .0 .1), symbol-small _ _ (c .before .before .before .before .before .before .before .before .before
-    .before .pre .1) _ _ _ (c .before .before .before .before .before .before .before .right-length .ensures .0) (omega arith) (c .before
-    .before .before .before .symbol-of .ensures .0))) (c .before .before .before .before .symbol-of .ensures .0) (c .before .before .before
-    .attributes .ensures .0) (c .before .before .arcs-at .ensures) (c .union .ensures))
+loop-again c = (
+  search needs,
+  gather-turn _ _ _ _ _ _ _ _ _ _ _ (c .before .before .before .before .before .before .loop .inv .1) (omega (
+    arith,
+    (c
+        .before .before .before .before .before .before .loop .inv .1 .size),
+    (c .before .before .before .before .before .before .before
+        .before .before .before .pre .0 .1),
+    symbol-small _ _ (c .before .before .before .before .before .before .before .before .before
+        .before .pre .1) _ _ _ (c .before .before .before .before .before .before .before .right-length .ensures .0) (omega arith) (c .before
+        .before .before .before .symbol-of .ensures .0),
+  )) (c .before .before .before .before .symbol-of .ensures .0) (c .before .before .before
+      .attributes .ensures .0) (c .before .before .arcs-at .ensures) (c .union .ensures),
+)
 
 returns : tie.Need-returns Inv-loop μ-loop
 returns c = search gather-finish

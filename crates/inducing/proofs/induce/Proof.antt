@@ -29,9 +29,22 @@ fill-requires : tie.Need-fill-requires Inv-loop μ-loop
 fill-requires c κs =
     let w = (cleared-rules (c .before .before .before .before .before .before .before .before .args .words .now) (c .before .before .before
     .before .before .before .before .before .args .rows .now) _ (c .before .before .before .before .word .result) (c .before .before
-    .before .before .word .ensures .0) (c .before .before .before .clear .ensures)) in ((c .before .before .before .before .before .before
-    .before .before .pre .0), ((c .before .before .before .before .before .before .before .before .pre .1 .0), (omega (arith, w .size, (c
-    .before .before .before .before .before .before .before .before .pre .1 .1)), w .zero)))
+    .before .before .word .ensures .0) (c .before .before .before .clear .ensures)) in (
+      (c .before .before .before .before .before .before
+          .before .before .pre .0),
+      (
+        (c .before .before .before .before .before .before .before .before .pre .1 .0),
+        (
+          omega (
+            arith,
+            w .size,
+            (c
+                .before .before .before .before .before .before .before .before .pre .1 .1),
+          ),
+          w .zero,
+        ),
+      ),
+    )
 
 loop-holds : tie.Need-loop-holds Inv-loop μ-loop
 loop-holds c =
@@ -39,11 +52,15 @@ loop-holds c =
     .before .before .before .before .before .before .before .before .before .before .pre .0) _ _ (c .before .before .fill .ensures .0) refl
 
 round-requires : tie.Need-round-requires Inv-loop μ-loop
-round-requires c κs =
-    ((c .before .before .before .before .before .before .before .before .before .before .before .before .before .before .pre .0), ((c
-    .before .before .before .before .before .before .before .before .before .before .before .before .before .before .pre .1 .0),
+round-requires c κs = (
+  (c .before .before .before .before .before .before .before .before .before .before .before .before .before .before .pre .0),
+  (
+    (c
+        .before .before .before .before .before .before .before .before .before .before .before .before .before .before .pre .1 .0),
     standing-here _ (c .before .before .before .before .before .before .before .before .before .before .before .before .before .before .pre
-    .0) _ _ _ (c .before .before .loop .inv)))
+        .0) _ _ _ (c .before .before .loop .inv),
+  ),
+)
 
 same-requires : tie.Need-same-requires Inv-loop μ-loop
 same-requires c κs = search needs
@@ -52,48 +69,50 @@ same-length : tie.Need-same-length Inv-loop μ-loop
 same-length c = search needs
 
 returns : tie.Need-returns Inv-loop μ-loop
-returns c =
-    (induced-state (c .before .before .before .before .before .before .before .before .before .before .before .before .before .before
-    .before .before .before .before .before .before .before .args .words .now) (c .before .before .before .before .before .before .before
-    .before .before .before .before .before .before .before .before .before .before .before .before .before .before .pre .0) (c .before
-    .before .before .before .before .before .before .before .before .before .before .before .before .before .before .before .before .before
-    .before .before .before .args .rows .now) (c .before .before .before .before .before .before .before .before .before .loop .rows) (c
-    .before .before .before .before .before .before .before .before .before .loop .ids) _ _ (c .before .same .result) (standing-from (c
-    .before .before .before .before .before .before .before .before .before .before .before .before .before .before .before .before .before
-    .before .before .before .before .args .words .now) (c .before .before .before .before .before .before .before .before .before .before
-    .before .before .before .before .before .before .before .before .before .before .before .pre .0) (c .before .before .before .before
-    .before .before .before .before .before .before .before .before .before .before .before .before .before .before .before .before .before
-    .args .rows .now) _ _ (c .before .before .before .before .before .before .before .before .before .loop .rows) (c .before .before
-    .before .before .before .before .before .before .before .loop .ids) (cleared-rules (c .before .before .before .before .before .before
-    .before .before .before .before .before .before .before .before .before .before .before .before .before .before .before .args .words
-    .now) (c .before .before .before .before .before .before .before .before .before .before .before .before .before .before .before
-    .before .before .before .before .before .before .args .rows .now) _ (c .before .before .before .before .before .before .before .before
-    .before .before .before .before .before .before .before .before .before .word .result) (c .before .before .before .before .before
-    .before .before .before .before .before .before .before .before .before .before .before .before .word .ensures .0) (c .before .before
-    .before .before .before .before .before .before .before .before .before .before .before .before .before .before .clear .ensures)) (c
-    .before .before .before .before .before .before .before .before .before .before .before .before .fill .ensures .1) (c .before .before
-    .before .before .before .before .before .before .before .loop .inv)) (c .before .before .before .before .before .before .round
-    .ensures) (c .before .same .ensures) (c .if1 .taken), induced-rows (c .before .before .before .before .before .before .before .before
-    .before .before .before .before .before .before .before .before .before .before .before .before .before .args .words .now) (c .before
-    .before .before .before .before .before .before .before .before .before .before .before .before .before .before .before .before .before
-    .before .before .before .pre .0) (c .before .before .before .before .before .before .before .before .before .before .before .before
-    .before .before .before .before .before .before .before .before .before .args .rows .now) (c .before .before .before .before .before
-    .before .before .before .before .loop .rows) (c .before .before .before .before .before .before .before .before .before .loop .ids) _ _
-    (c .before .same .result) (standing-from (c .before .before .before .before .before .before .before .before .before .before .before
-    .before .before .before .before .before .before .before .before .before .before .args .words .now) (c .before .before .before .before
-    .before .before .before .before .before .before .before .before .before .before .before .before .before .before .before .before .before
-    .pre .0) (c .before .before .before .before .before .before .before .before .before .before .before .before .before .before .before
-    .before .before .before .before .before .before .args .rows .now) _ _ (c .before .before .before .before .before .before .before
-    .before .before .loop .rows) (c .before .before .before .before .before .before .before .before .before .loop .ids) (cleared-rules (c
-    .before .before .before .before .before .before .before .before .before .before .before .before .before .before .before .before .before
-    .before .before .before .before .args .words .now) (c .before .before .before .before .before .before .before .before .before .before
-    .before .before .before .before .before .before .before .before .before .before .before .args .rows .now) _ (c .before .before .before
-    .before .before .before .before .before .before .before .before .before .before .before .before .before .before .word .result) (c
-    .before .before .before .before .before .before .before .before .before .before .before .before .before .before .before .before .before
-    .word .ensures .0) (c .before .before .before .before .before .before .before .before .before .before .before .before .before .before
-    .before .before .clear .ensures)) (c .before .before .before .before .before .before .before .before .before .before .before .before
-    .fill .ensures .1) (c .before .before .before .before .before .before .before .before .before .loop .inv)) (c .before .before .before
-    .before .before .before .round .ensures) (c .before .same .ensures) (c .if1 .taken))
+returns c = (
+  induced-state (c .before .before .before .before .before .before .before .before .before .before .before .before .before .before
+      .before .before .before .before .before .before .before .args .words .now) (c .before .before .before .before .before .before .before
+      .before .before .before .before .before .before .before .before .before .before .before .before .before .before .pre .0) (c .before
+      .before .before .before .before .before .before .before .before .before .before .before .before .before .before .before .before .before
+      .before .before .before .args .rows .now) (c .before .before .before .before .before .before .before .before .before .loop .rows) (c
+      .before .before .before .before .before .before .before .before .before .loop .ids) _ _ (c .before .same .result) (standing-from (c
+      .before .before .before .before .before .before .before .before .before .before .before .before .before .before .before .before .before
+      .before .before .before .before .args .words .now) (c .before .before .before .before .before .before .before .before .before .before
+      .before .before .before .before .before .before .before .before .before .before .before .pre .0) (c .before .before .before .before
+      .before .before .before .before .before .before .before .before .before .before .before .before .before .before .before .before .before
+      .args .rows .now) _ _ (c .before .before .before .before .before .before .before .before .before .loop .rows) (c .before .before
+      .before .before .before .before .before .before .before .loop .ids) (cleared-rules (c .before .before .before .before .before .before
+      .before .before .before .before .before .before .before .before .before .before .before .before .before .before .before .args .words
+      .now) (c .before .before .before .before .before .before .before .before .before .before .before .before .before .before .before
+      .before .before .before .before .before .before .args .rows .now) _ (c .before .before .before .before .before .before .before .before
+      .before .before .before .before .before .before .before .before .before .word .result) (c .before .before .before .before .before
+      .before .before .before .before .before .before .before .before .before .before .before .before .word .ensures .0) (c .before .before
+      .before .before .before .before .before .before .before .before .before .before .before .before .before .before .clear .ensures)) (c
+      .before .before .before .before .before .before .before .before .before .before .before .before .fill .ensures .1) (c .before .before
+      .before .before .before .before .before .before .before .loop .inv)) (c .before .before .before .before .before .before .round
+      .ensures) (c .before .same .ensures) (c .if1 .taken),
+  induced-rows (c .before .before .before .before .before .before .before .before
+      .before .before .before .before .before .before .before .before .before .before .before .before .before .args .words .now) (c .before
+      .before .before .before .before .before .before .before .before .before .before .before .before .before .before .before .before .before
+      .before .before .before .pre .0) (c .before .before .before .before .before .before .before .before .before .before .before .before
+      .before .before .before .before .before .before .before .before .before .args .rows .now) (c .before .before .before .before .before
+      .before .before .before .before .loop .rows) (c .before .before .before .before .before .before .before .before .before .loop .ids) _ _
+      (c .before .same .result) (standing-from (c .before .before .before .before .before .before .before .before .before .before .before
+      .before .before .before .before .before .before .before .before .before .before .args .words .now) (c .before .before .before .before
+      .before .before .before .before .before .before .before .before .before .before .before .before .before .before .before .before .before
+      .pre .0) (c .before .before .before .before .before .before .before .before .before .before .before .before .before .before .before
+      .before .before .before .before .before .before .args .rows .now) _ _ (c .before .before .before .before .before .before .before
+      .before .before .loop .rows) (c .before .before .before .before .before .before .before .before .before .loop .ids) (cleared-rules (c
+      .before .before .before .before .before .before .before .before .before .before .before .before .before .before .before .before .before
+      .before .before .before .before .args .words .now) (c .before .before .before .before .before .before .before .before .before .before
+      .before .before .before .before .before .before .before .before .before .before .before .args .rows .now) _ (c .before .before .before
+      .before .before .before .before .before .before .before .before .before .before .before .before .before .before .word .result) (c
+      .before .before .before .before .before .before .before .before .before .before .before .before .before .before .before .before .before
+      .word .ensures .0) (c .before .before .before .before .before .before .before .before .before .before .before .before .before .before
+      .before .before .clear .ensures)) (c .before .before .before .before .before .before .before .before .before .before .before .before
+      .fill .ensures .1) (c .before .before .before .before .before .before .before .before .before .loop .inv)) (c .before .before .before
+      .before .before .before .round .ensures) (c .before .same .ensures) (c .if1 .taken),
+)
 
 loop-less : tie.Need-loop-less Inv-loop μ-loop
 loop-less c =

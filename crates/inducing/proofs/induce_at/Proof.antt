@@ -63,12 +63,17 @@ single-requires-2 : tie.Need-single-requires-2 Inv-loop μ-loop
 single-requires-2 c κs = search needs
 
 join-requires : tie.Need-join-requires Inv-loop μ-loop
-join-requires c κs =
-    (search needs,
-    search
-    (missing-inside, (c .before .before .before .before .before .field .ensures), (c .before .before .before .before .raised .ensures),
-    (c .single2 .ensures), (c .before .before .minus .ensures),
-    (c .before .before .before .before .before .before .before .before .before .before .before .pre .1 .1)))
+join-requires c κs = (
+  search needs,
+  search (
+    missing-inside,
+    (c .before .before .before .before .before .field .ensures),
+    (c .before .before .before .before .raised .ensures),
+    (c .single2 .ensures),
+    (c .before .before .minus .ensures),
+    (c .before .before .before .before .before .before .before .before .before .before .before .pre .1 .1),
+  ),
+)
 
 add-a : tie.Need-add-a Inv-loop μ-loop
 add-a c = search needs
@@ -77,14 +82,19 @@ loop-less : tie.Need-loop-less Inv-loop μ-loop
 loop-less c = search needs
 
 loop-again : tie.Need-loop-again Inv-loop μ-loop
-loop-again c =
-    (search needs,
-    search
-    (induce-turn, needs, (c .before .before .before .before .before .before .before .before .field .ensures),
-    (c .before .before .before .before .before .before .before .raised .ensures), (c .before .before .before .single2 .ensures),
+loop-again c = (
+  search needs,
+  search (
+    induce-turn,
+    needs,
+    (c .before .before .before .before .before .before .before .before .field .ensures),
+    (c .before .before .before .before .before .before .before .raised .ensures),
+    (c .before .before .before .single2 .ensures),
     (c .before .before .before .before .before .minus .ensures),
     (c .before .before .before .before .before .before .before .before .before .before .before .before .loop .inv .1),
-    (c .before .before .join .ensures)))
+    (c .before .before .join .ensures),
+  ),
+)
 
 same-length-2 : tie.Need-same-length-2 Inv-loop μ-loop
 same-length-2 c = search needs

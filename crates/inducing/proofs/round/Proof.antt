@@ -19,14 +19,19 @@ word-requires : tie.Need-word-requires Inv-loop μ-loop
 word-requires c κs = search needs
 
 loop-holds : tie.Need-loop-holds Inv-loop μ-loop
-loop-holds c =
-    (search needs, turned-start (c .before .before .before .args .words .now) (c .before .before .before .args .rows .now) (c .before
-    .before .before .args .rows .now) (c .before .before .before .args .ids .now) (c .before .before .before .pre .1 .1))
+loop-holds c = (
+  search needs,
+  turned-start (c .before .before .before .args .words .now) (c .before .before .before .args .rows .now) (c .before
+      .before .before .args .rows .now) (c .before .before .before .args .ids .now) (c .before .before .before .pre .1 .1),
+)
 
 rule-at-requires : tie.Need-rule-at-requires Inv-loop μ-loop
 rule-at-requires c κs =
-    omega (arith, few-rules (c .before .before .before .before .before .args .words .now) (c .before .before .before .before .before .pre
-    .0) (c .before .before .word .result) (c .before .before .word .ensures .0))
+    omega (
+      arith,
+      few-rules (c .before .before .before .before .before .args .words .now) (c .before .before .before .before .before .pre
+          .0) (c .before .before .word .result) (c .before .before .word .ensures .0),
+    )
 
 mul-spread : tie.Need-mul-spread Inv-loop μ-loop
 mul-spread c = search needs
@@ -37,39 +42,52 @@ occurrence-set-requires c κs =
     .before .before .before .before .before .before .pre .1 .0) (omega arith) (c .before .rule-at .ensures))) in (w .near, w .shaped)
 
 spread-requires : tie.Need-spread-requires Inv-loop μ-loop
-spread-requires c κs =
-    (omega (arith, (c .before .before .before .before .before .loop .inv .1 .standing .holds .room)), ((ruled (c .before .before .before
-    .before .before .before .before .before .before .args .words .now) (c .before .before .before .before .before .before .before .before
-    .before .pre .0) (c .before .before .before .before .before .loop .r) (c .before .before .before .rule-at .result) (omega arith)
-    (offset-is (c .before .before .before .before .before .before .before .before .before .args .words .now) (c .before .before .before
-    .before .before .before .before .before .before .args .offsets .now) (c .before .before .before .before .before .loop .r) (c .before
-    .before .before .rule-at .result) (c .before .before .before .before .before .before .before .before .before .pre .1 .0) (omega arith)
-    (c .before .before .before .rule-at .ensures))), (arcs-fit (c .before .before .before .before .before .before .before .before .before
-    .args .words .now) (c .before .before .before .before .before .before .before .before .before .pre .0) (c .before .before .before
-    .before .before .loop .ids) (c .before .before .before .before .before .loop .r) (c .before .before .before .rule-at .result) (c
-    .before .occurrence-set .result) (c .before .before .before .before .before .loop .inv .1 .standing .arcs) (omega arith) (offset-is (c
-    .before .before .before .before .before .before .before .before .before .args .words .now) (c .before .before .before .before .before
-    .before .before .before .before .args .offsets .now) (c .before .before .before .before .before .loop .r) (c .before .before .before
-    .rule-at .result) (c .before .before .before .before .before .before .before .before .before .pre .1 .0) (omega arith) (c .before
-    .before .before .rule-at .ensures)) (c .before .occurrence-set .ensures), kept-at (c .before .before .before .before .before .before
-    .before .before .before .args .words .now) _ _ (c .before .before .before .before .before .loop .rows) (c .before .before .before
-    .before .before .loop .r) (c .before .before .before .rule-at .result) (c .before .occurrence-set .result) (c .before .before .before
-    .before .before .loop .inv .1 .standing .holds) (omega arith) (offset-is (c .before .before .before .before .before .before .before
-    .before .before .args .words .now) (c .before .before .before .before .before .before .before .before .before .args .offsets .now) (c
-    .before .before .before .before .before .loop .r) (c .before .before .before .rule-at .result) (c .before .before .before .before
-    .before .before .before .before .before .pre .1 .0) (omega arith) (c .before .before .before .rule-at .ensures)) (c .before
-    .occurrence-set .ensures))))
+spread-requires c κs = (
+  omega (arith, (c .before .before .before .before .before .loop .inv .1 .standing .holds .room)),
+  (
+    (ruled (c .before .before .before
+        .before .before .before .before .before .before .args .words .now) (c .before .before .before .before .before .before .before .before
+        .before .pre .0) (c .before .before .before .before .before .loop .r) (c .before .before .before .rule-at .result) (omega arith)
+        (offset-is (c .before .before .before .before .before .before .before .before .before .args .words .now) (c .before .before .before
+        .before .before .before .before .before .before .args .offsets .now) (c .before .before .before .before .before .loop .r) (c .before
+        .before .before .rule-at .result) (c .before .before .before .before .before .before .before .before .before .pre .1 .0) (omega arith)
+        (c .before .before .before .rule-at .ensures))),
+    (
+      arcs-fit (c .before .before .before .before .before .before .before .before .before
+          .args .words .now) (c .before .before .before .before .before .before .before .before .before .pre .0) (c .before .before .before
+          .before .before .loop .ids) (c .before .before .before .before .before .loop .r) (c .before .before .before .rule-at .result) (c
+          .before .occurrence-set .result) (c .before .before .before .before .before .loop .inv .1 .standing .arcs) (omega arith) (offset-is (c
+          .before .before .before .before .before .before .before .before .before .args .words .now) (c .before .before .before .before .before
+          .before .before .before .before .args .offsets .now) (c .before .before .before .before .before .loop .r) (c .before .before .before
+          .rule-at .result) (c .before .before .before .before .before .before .before .before .before .pre .1 .0) (omega arith) (c .before
+          .before .before .rule-at .ensures)) (c .before .occurrence-set .ensures),
+      kept-at (c .before .before .before .before .before .before
+          .before .before .before .args .words .now) _ _ (c .before .before .before .before .before .loop .rows) (c .before .before .before
+          .before .before .loop .r) (c .before .before .before .rule-at .result) (c .before .occurrence-set .result) (c .before .before .before
+          .before .before .loop .inv .1 .standing .holds) (omega arith) (offset-is (c .before .before .before .before .before .before .before
+          .before .before .args .words .now) (c .before .before .before .before .before .before .before .before .before .args .offsets .now) (c
+          .before .before .before .before .before .loop .r) (c .before .before .before .rule-at .result) (c .before .before .before .before
+          .before .before .before .before .before .pre .1 .0) (omega arith) (c .before .before .before .rule-at .ensures)) (c .before
+          .occurrence-set .ensures),
+    ),
+  ),
+)
 
 mul-gather : tie.Need-mul-gather Inv-loop μ-loop
 mul-gather c = search needs
 
 gather-requires : tie.Need-gather-requires Inv-loop μ-loop
-gather-requires c κs =
-    (((c .before .before .before .before .spread .ensures .kept .room), (c .before .before .before .before .before .before .before .before
-    .before .before .loop .inv .1 .standing .sized)), (ruled _ (c .before .before .before .before .before .before .before .before .before
-    .before .before .before .before .before .pre .0) _ _ (omega arith) (offset-is _ _ _ _ (c .before .before .before .before .before
-    .before .before .before .before .before .before .before .before .before .pre .1 .0) (omega arith) (c .before .before .before .before
-    .before .before .before .before .rule-at .ensures))))
+gather-requires c κs = (
+  (
+    (c .before .before .before .before .spread .ensures .kept .room),
+    (c .before .before .before .before .before .before .before .before
+        .before .before .loop .inv .1 .standing .sized),
+  ),
+  (ruled _ (c .before .before .before .before .before .before .before .before .before
+      .before .before .before .before .before .pre .0) _ _ (omega arith) (offset-is _ _ _ _ (c .before .before .before .before .before
+      .before .before .before .before .before .before .before .before .before .pre .1 .0) (omega arith) (c .before .before .before .before
+      .before .before .before .before .rule-at .ensures))),
+)
 
 add-r : tie.Need-add-r Inv-loop μ-loop
 add-r c = search needs
@@ -78,13 +96,15 @@ loop-less : tie.Need-loop-less Inv-loop μ-loop
 loop-less c = search needs
 
 loop-again : tie.Need-loop-again Inv-loop μ-loop
-loop-again c =
-    (search needs, turned-turn _ (c .before .before .before .before .before .before .before .before .before .before .before .before .before
-    .before .before .pre .0) _ _ _ _ _ _ _ _ _ (c .before .before .before .before .before .before .before .before .before .before .before
-    .loop .inv .1) (omega arith) (offset-is _ _ _ _ (c .before .before .before .before .before .before .before .before .before .before
-    .before .before .before .before .before .pre .1 .0) (omega arith) (c .before .before .before .before .before .before .before .before
-    .before .rule-at .ensures)) (c .before .before .before .before .before .before .before .occurrence-set .ensures) (c .before .before
-    .before .before .before .spread .ensures) (c .gather .ensures))
+loop-again c = (
+  search needs,
+  turned-turn _ (c .before .before .before .before .before .before .before .before .before .before .before .before .before
+      .before .before .pre .0) _ _ _ _ _ _ _ _ _ (c .before .before .before .before .before .before .before .before .before .before .before
+      .loop .inv .1) (omega arith) (offset-is _ _ _ _ (c .before .before .before .before .before .before .before .before .before .before
+      .before .before .before .before .before .pre .1 .0) (omega arith) (c .before .before .before .before .before .before .before .before
+      .before .rule-at .ensures)) (c .before .before .before .before .before .before .before .occurrence-set .ensures) (c .before .before
+      .before .before .before .spread .ensures) (c .gather .ensures),
+)
 
 same-length : tie.Need-same-length Inv-loop μ-loop
 same-length c = search needs

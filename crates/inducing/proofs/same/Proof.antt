@@ -39,9 +39,11 @@ loop-less : tie.Need-loop-less Inv-loop μ-loop
 loop-less c = search needs
 
 loop-again : tie.Need-loop-again Inv-loop μ-loop
-loop-again c =
-    (search needs, agree-more (c .before .before .before .before .before .args .a .now) (c .before .before .before .before .before .args .b
-    .now) (c .before .before .before .before .loop .x) (c .before .before .before .before .loop .inv .1) (c .if1 .left))
+loop-again c = (
+  search needs,
+  agree-more (c .before .before .before .before .before .args .a .now) (c .before .before .before .before .before .args .b
+      .now) (c .before .before .before .before .loop .x) (c .before .before .before .before .loop .inv .1) (c .if1 .left),
+)
 
 returns-2 : tie.Need-returns-2 Inv-loop μ-loop
 returns-2 c =

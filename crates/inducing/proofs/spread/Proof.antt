@@ -41,13 +41,18 @@ loop-less : tie.Need-loop-less Inv-loop μ-loop
 loop-less c = search needs
 
 loop-again : tie.Need-loop-again Inv-loop μ-loop
-loop-again c =
-    (search needs,
-    search
-    (spread-turn, needs, (c .before .before .before .before .before .before .before .loop .inv .1),
+loop-again c = (
+  search needs,
+  search (
+    spread-turn,
+    needs,
+    (c .before .before .before .before .before .before .before .loop .inv .1),
     (c .before .before .before .before .before .before .before .before .before .before .before .pre .1 .1 .0),
     (c .before .before .before .before .before .before .before .before .right-length .ensures .0),
-    (c .before .before .before .before .symbol-of .ensures .0), (c .before .before .induce-at .ensures)))
+    (c .before .before .before .before .symbol-of .ensures .0),
+    (c .before .before .induce-at .ensures),
+  ),
+)
 
 same-length : tie.Need-same-length Inv-loop μ-loop
 same-length c = search needs

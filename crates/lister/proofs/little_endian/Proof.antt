@@ -46,8 +46,12 @@ mul-words c = search needs
 -- src/lib.rt:171:9
 slice-write-words : tie.Need-slice-write-words Inv-loop μ-loop
 slice-write-words c =
-    omega (arith, (c .before .before .before .before .before .before .before .pre), (c .before .before .before .before .loop .inv) .kept,
-    (c .before .before .before .loop-test .taken))
+    omega (
+      arith,
+      (c .before .before .before .before .before .before .before .pre),
+      (c .before .before .before .before .loop .inv) .kept,
+      (c .before .before .before .loop-test .taken),
+    )
 
 -- src/lib.rt:170:9
 add-i : tie.Need-add-i Inv-loop μ-loop

@@ -67,9 +67,11 @@ loop-less c = search needs
 
 -- src/lib.rt:109:5
 loop-again : tie.Need-loop-again Inv-loop μ-loop
-loop-again c =
-    (omega arith, plans.action-turn _ _ _ _ (c .before .before .before .word2 .ensures .0) (c .before .before .before .before .before
-    .before .loop .inv .1) (c .before .before .number2 .ensures))
+loop-again c = (
+  omega arith,
+  plans.action-turn _ _ _ _ (c .before .before .before .word2 .ensures .0) (c .before .before .before .before .before
+      .before .loop .inv .1) (c .before .before .number2 .ensures),
+)
 
 -- src/lib.rt:112:5
 put-requires-2 : tie.Need-put-requires-2 Inv-loop μ-loop

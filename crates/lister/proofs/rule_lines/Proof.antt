@@ -35,9 +35,11 @@ loop-less c = search needs
 
 -- src/lib.rt:131:5
 loop-again : tie.Need-loop-again Inv-loop μ-loop
-loop-again c =
-    (omega arith, line.blocks-turn (λ k. ruleLineOf (c .before .before .before .before .before .before .before .before .before .before
-    .args .plan .now) k) _ (c .before .before .before .before .before .loop .inv .1) (c .before .before .rule-line .ensures))
+loop-again c = (
+  omega arith,
+  line.blocks-turn (λ k. ruleLineOf (c .before .before .before .before .before .before .before .before .before .before
+      .args .plan .now) k) _ (c .before .before .before .before .before .loop .inv .1) (c .before .before .rule-line .ensures),
+)
 
 -- src/lib.rt:127:1
 same-length : tie.Need-same-length Inv-loop μ-loop

@@ -76,9 +76,11 @@ loop-less c = search needs
 
 -- src/lib.rt:95:5
 loop-again : tie.Need-loop-again Inv-loop μ-loop
-loop-again c =
-    (omega arith, plans.set-turn _ _ _ _ (c .before .before .before .word .ensures .0) (c .before .before .before .before .before .before
-    .loop .inv .1) (c .before .before .number3 .ensures))
+loop-again c = (
+  omega arith,
+  plans.set-turn _ _ _ _ (c .before .before .before .word .ensures .0) (c .before .before .before .before .before .before
+      .loop .inv .1) (c .before .before .number3 .ensures),
+)
 
 -- src/lib.rt:98:5
 put-requires-2 : tie.Need-put-requires-2 Inv-loop μ-loop

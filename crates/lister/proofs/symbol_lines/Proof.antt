@@ -36,10 +36,12 @@ loop-less c = search needs
 
 -- src/lib.rt:120:5
 loop-again : tie.Need-loop-again Inv-loop μ-loop
-loop-again c =
-    (omega arith, line.blocks-turn (λ k. symbolLine (c .before .before .before .before .before .before .before .before .before .before
-    .args .words .now) (c .before .before .before .before .before .before .before .before .before .before .args .plan .now) k) _ (c .before
-    .before .before .before .before .loop .inv .1) (c .before .before .symbol-line .ensures))
+loop-again c = (
+  omega arith,
+  line.blocks-turn (λ k. symbolLine (c .before .before .before .before .before .before .before .before .before .before
+      .args .words .now) (c .before .before .before .before .before .before .before .before .before .before .args .plan .now) k) _ (c .before
+      .before .before .before .before .loop .inv .1) (c .before .before .symbol-line .ensures),
+)
 
 -- src/lib.rt:116:1
 same-length : tie.Need-same-length Inv-loop μ-loop

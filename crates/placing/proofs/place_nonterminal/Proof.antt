@@ -25,9 +25,16 @@ mask-requires c κs = search needs
 
 place-symbol-requires : tie.Need-place-symbol-requires
 place-symbol-requires c κs =
-    let few : c .before .before .before .attributes .result ≤ 8 = omega (arith, c .before .before .before .before .before .before .before
-    .before .pre .0 .attributesFit, c .before .before .before .attributes .ensures .0) in (omega arith, below-fits _ _ few (c .before
-    .before .below .ensures))
+    let few : c .before .before .before .attributes .result ≤ 8 = omega (
+      arith,
+      c .before .before .before .before .before .before .before
+          .before .pre .0 .attributesFit,
+      c .before .before .before .attributes .ensures .0,
+    ) in (
+      omega arith,
+      below-fits _ _ few (c .before
+          .before .below .ensures),
+    )
 
 same-length : tie.Need-same-length
 same-length c = search needs

@@ -32,7 +32,7 @@ slice-aggregate-place-nonterminal : tie.Need-slice-aggregate-place-nonterminal I
 slice-aggregate-place-nonterminal c = search needs
 
 place-nonterminal-requires : tie.Need-place-nonterminal-requires Inv-loop μ-loop
-place-nonterminal-requires c κs = 
+place-nonterminal-requires c κs =
     (c .before .before .before .loop .inv .1 .formed .symbol (c .before .before .before .loop .x) (omega arith), (omega (arith, c .before .before .before .loop .inv .1 .formed .symbolsFit), c .before .before .before .loop .inv .1 .size))
 
 add-x : tie.Need-add-x Inv-loop μ-loop
@@ -42,12 +42,14 @@ loop-less : tie.Need-loop-less Inv-loop μ-loop
 loop-less c = search needs
 
 loop-again : tie.Need-loop-again Inv-loop μ-loop
-loop-again c =
-    (c .before .before .before .before .before .loop .inv .0, sets-turn _ _ _ _ _ (c .before .place-nonterminal .last .1 .1 .1 .0) (c
-    .before .before .before .before .before .loop .inv .1) (omega arith) refl (c .before .place-nonterminal .ensures))
+loop-again c = (
+  c .before .before .before .before .before .loop .inv .0,
+  sets-turn _ _ _ _ _ (c .before .place-nonterminal .last .1 .1 .1 .0) (c
+      .before .before .before .before .before .loop .inv .1) (omega arith) refl (c .before .place-nonterminal .ensures),
+)
 
 returns : tie.Need-returns Inv-loop μ-loop
-returns c = 
+returns c =
     sets-finish (c .before .before .before .before .args .words .now) (c .before .before .before .before .args .ids .now) (c .before .loop .sets)
     (c .before .loop .x) (c .before .loop .inv .1) (omega arith)
 

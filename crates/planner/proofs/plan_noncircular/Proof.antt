@@ -39,8 +39,13 @@ write-plan-requires c κs =
     let counted = placed .before in
     let entered = counted .before .before .before .before in
     search (
-        ordered-ready, entered .pre, counted .word .ensures .0, placed .sets-of .ensures, extended .extend .ensures, found .find-cycle .ensures,
-        told .enum-told .given .1
+      ordered-ready,
+      entered .pre,
+      counted .word .ensures .0,
+      placed .sets-of .ensures,
+      extended .extend .ensures,
+      found .find-cycle .ensures,
+      told .enum-told .given .1,
     )
 
 mul-t24 : tie.Need-mul-t24
@@ -65,8 +70,13 @@ returns-2 c =
     let counted = placed .before in
     let entered = counted .before .before .before .before in
     search (
-        plan-came, entered .pre, counted .word .ensures .0, extended .extend .ensures, found .find-cycle .ensures, told .enum-told .given .1,
-        written .write-plan .ensures
+      plan-came,
+      entered .pre,
+      counted .word .ensures .0,
+      extended .extend .ensures,
+      found .find-cycle .ensures,
+      told .enum-told .given .1,
+      written .write-plan .ensures,
     )
 
 pub plan-noncircular-spec : {M : Type 1} → statement M

@@ -36,8 +36,13 @@ plan-noncircular-requires c κs =
     let lent = induced .before in
     let entered = lent .before .before .before .before in
     search (
-        noncircular, entered .pre, induced .induce .ensures .0, induced .induce .ensures .1, counted .word .ensures .0, found .find-cycle .ensures,
-        told .enum-told .given .1
+      noncircular,
+      entered .pre,
+      induced .induce .ensures .0,
+      induced .induce .ensures .1,
+      counted .word .ensures .0,
+      found .find-cycle .ensures,
+      told .enum-told .given .1,
     )
 
 same-length-2 : tie.Need-same-length-2

@@ -26,9 +26,10 @@ rule-at-requires c κs = search plan-rule
 sequence-requires : tie.Need-sequence-requires Inv-loop μ-loop
 sequence-requires c κs =
     let taken = c .before .before in
-    let turn = taken .before in
-    (search (plan-given, turn .loop .inv, turn .before .word .ensures .0, taken .loop-test .taken, c .before .rule-at .ensures),
-    search (plan-fits, turn .loop .inv))
+    let turn = taken .before in (
+      search (plan-given, turn .loop .inv, turn .before .word .ensures .0, taken .loop-test .taken, c .before .rule-at .ensures),
+      search (plan-fits, turn .loop .inv),
+    )
 
 add-r : tie.Need-add-r Inv-loop μ-loop
 add-r c = search needs

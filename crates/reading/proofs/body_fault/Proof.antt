@@ -87,30 +87,36 @@ returns-3 c = (
 )
 
 occurrence-set-requires : tie.Need-occurrence-set-requires
-occurrence-set-requires c κs =
-    ((c .before .before .before .before .before .before .before .before .before .before .before .before .pre .0), shaped _ _ _ _ _ (c
-    .before .before .before .before .before .before .before .before .before .before .before .before .pre .1 .0) (c .before .before .before
-    .before .before .before .before .before .before .before .before .before .pre .1 .1) (c .before .before .before .before .before .before
-    .before .before .before .before .right-length .ensures .0) (c .before .before .before .before .before .before .before .before .before
-    .ranged .ensures) (c .before .before .before .before .before .before .before .enum-told .given .1) (c .before .before .before .before
-    .before .before .right-fault .ensures) (c .before .before .before .before .enum-told3 .given .1))
+occurrence-set-requires c κs = (
+  (c .before .before .before .before .before .before .before .before .before .before .before .before .pre .0),
+  shaped _ _ _ _ _ (c
+      .before .before .before .before .before .before .before .before .before .before .before .before .pre .1 .0) (c .before .before .before
+      .before .before .before .before .before .before .before .before .before .pre .1 .1) (c .before .before .before .before .before .before
+      .before .before .before .before .right-length .ensures .0) (c .before .before .before .before .before .before .before .before .before
+      .ranged .ensures) (c .before .before .before .before .before .before .before .enum-told .given .1) (c .before .before .before .before
+      .before .before .right-fault .ensures) (c .before .before .before .before .enum-told3 .given .1),
+)
 
 defining-set-requires : tie.Need-defining-set-requires
-defining-set-requires c κs =
-    ((c .before .before .before .before .before .before .before .before .before .before .before .before .before .pre .0), shaped _ _ _ _ _
-    (c .before .before .before .before .before .before .before .before .before .before .before .before .before .pre .1 .0) (c .before
-    .before .before .before .before .before .before .before .before .before .before .before .before .pre .1 .1) (c .before .before .before
-    .before .before .before .before .before .before .before .before .right-length .ensures .0) (c .before .before .before .before .before
-    .before .before .before .before .before .ranged .ensures) (c .before .before .before .before .before .before .before .before .enum-told
-    .given .1) (c .before .before .before .before .before .before .before .right-fault .ensures) (c .before .before .before .before .before
-    .enum-told3 .given .1))
+defining-set-requires c κs = (
+  (c .before .before .before .before .before .before .before .before .before .before .before .before .before .pre .0),
+  shaped _ _ _ _ _
+      (c .before .before .before .before .before .before .before .before .before .before .before .before .before .pre .1 .0) (c .before
+      .before .before .before .before .before .before .before .before .before .before .before .before .pre .1 .1) (c .before .before .before
+      .before .before .before .before .before .before .before .before .right-length .ensures .0) (c .before .before .before .before .before
+      .before .before .before .before .before .ranged .ensures) (c .before .before .before .before .before .before .before .before .enum-told
+      .given .1) (c .before .before .before .before .before .before .before .right-fault .ensures) (c .before .before .before .before .before
+      .enum-told3 .given .1),
+)
 
 functions-fault-requires : tie.Need-functions-fault-requires
-functions-fault-requires c κs =
-    ((c .before .before .before .before .before .before .before .before .before .before .before .before .before .before .pre .0), ranged-le
-    _ _ _ _ _ (count-of _ _ _ _ _ (c .before .before .before .before .ranged2 .ensures) (c .before .before .before .before .before .before
-    .before .before .before .before .before .before .right-length .ensures .0) (c .before .before .before .before .before .function-count
-    .ensures .0)) (c .before .before .enum-told5 .given .1))
+functions-fault-requires c κs = (
+  (c .before .before .before .before .before .before .before .before .before .before .before .before .before .before .pre .0),
+  ranged-le
+      _ _ _ _ _ (count-of _ _ _ _ _ (c .before .before .before .before .ranged2 .ensures) (c .before .before .before .before .before .before
+      .before .before .before .before .before .before .right-length .ensures .0) (c .before .before .before .before .before .function-count
+      .ensures .0)) (c .before .before .enum-told5 .given .1),
+)
 
 returns-4 : tie.Need-returns-4
 unfolding bodyFrom

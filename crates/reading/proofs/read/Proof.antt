@@ -87,18 +87,23 @@ add-p : tie.Need-add-p Inv-loop μ-loop
 add-p c = search needs
 
 loop-holds : tie.Need-loop-holds Inv-loop μ-loop
-loop-holds c =
-    (omega arith, start _ _ _ (c .before .before .before .before .before .before .before .word .ensures .0) (few-symbols _ _ _ (c .before
-    .before .before .before .before .before .before .before .before .before .header .ensures) (c .before .before .before .before .before
-    .before .before .before .enum-told .given .1) (c .before .before .before .before .before .before .before .word .ensures .0)) refl)
+loop-holds c = (
+  omega arith,
+  start _ _ _ (c .before .before .before .before .before .before .before .word .ensures .0) (few-symbols _ _ _ (c .before
+      .before .before .before .before .before .before .before .before .before .header .ensures) (c .before .before .before .before .before
+      .before .before .before .enum-told .given .1) (c .before .before .before .before .before .before .before .word .ensures .0)) refl,
+)
 
 rule-fault-requires : tie.Need-rule-fault-requires Inv-loop μ-loop
 rule-fault-requires c κs =
     let few : _ ≤ 64 = few-rules _ _ _ (c .before .before .before .before .before .before .before .before .before .before .before .before
     .header .ensures) (c .before .before .before .before .before .before .before .before .before .before .enum-told .given .1) (c .before
-    .before .word2 .ensures .0) in (omega arith, symbols-formed _ _ _ (c .before .before .before .before .before .before .before .before
-    .symbols-fault .ensures) (c .before .before .before .before .before .before .before .before .before .word .ensures .0) (c .before
-    .before .before .before .before .before .enum-told3 .given .1))
+    .before .word2 .ensures .0) in (
+      omega arith,
+      symbols-formed _ _ _ (c .before .before .before .before .before .before .before .before
+          .symbols-fault .ensures) (c .before .before .before .before .before .before .before .before .before .word .ensures .0) (c .before
+          .before .before .before .before .before .enum-told3 .given .1),
+    )
 
 enum-told-7 : tie.Need-enum-told-7 Inv-loop μ-loop
 enum-told-7 c = search needs
@@ -140,9 +145,12 @@ loop-again : tie.Need-loop-again Inv-loop μ-loop
 loop-again c =
     let few : _ ≤ 64 = few-rules _ _ _ (c .before .before .before .before .before .before .before .before .before .before .before .before
     .before .before .before .header .ensures) (c .before .before .before .before .before .before .before .before .before .before .before
-    .before .before .enum-told .given .1) (c .before .before .before .before .before .word2 .ensures .0) in (omega arith, turn _ _ _ _ _ (c
-    .before .before .before .before .loop .inv .1) _ _ _ (omega arith) (c .before .before .rule-fault .ensures .0) (c .enum-told7 .given
-    .1) (c .before .before .rule-fault .ensures .1))
+    .before .before .enum-told .given .1) (c .before .before .before .before .before .word2 .ensures .0) in (
+      omega arith,
+      turn _ _ _ _ _ (c
+          .before .before .before .before .loop .inv .1) _ _ _ (omega arith) (c .before .before .rule-fault .ensures .0) (c .enum-told7 .given
+          .1) (c .before .before .rule-fault .ensures .1),
+    )
 
 rule-before-requires : tie.Need-rule-before-requires Inv-loop μ-loop
 rule-before-requires c κs = search needs
@@ -200,10 +208,13 @@ returns-7 c =
     .before .rule-before .ensures)) (c .before .before .before .enum-told9 .given .1) (sym (c .enum-told11 .given .1) ∙ over-end _ _ _ _ _
     (c .before .before .before .before .before .before .before .loop .inv .1) _ (c .before .before .before .before .before .before .before
     .before .word2 .ensures .0) (c .before .before .before .before .before .before .before .loop .inv .0) (c .before .before .before
-    .before .before .before .loop-test .left) _ (c .before .before .left-over .ensures)))) in (good, offsets-end _ _ _ _ _ (c .before
-    .before .before .before .before .before .before .loop .inv .1) _ (c .before .before .before .before .before .before .before .before
-    .word2 .ensures .0) (c .before .before .before .before .before .before .before .loop .inv .0) (c .before .before .before .before
-    .before .before .loop-test .left) good)
+    .before .before .before .loop-test .left) _ (c .before .before .left-over .ensures)))) in (
+      good,
+      offsets-end _ _ _ _ _ (c .before
+          .before .before .before .before .before .before .loop .inv .1) _ (c .before .before .before .before .before .before .before .before
+          .word2 .ensures .0) (c .before .before .before .before .before .before .before .loop .inv .0) (c .before .before .before .before
+          .before .before .loop-test .left) good,
+    )
 
 pub read-spec : {M : Type 1} → statement M
 read-spec =

@@ -46,10 +46,15 @@ returns-2 c = (
 )
 
 body-fault-requires : tie.Need-body-fault-requires
-body-fault-requires c κs =
-    ((c .before .before .before .before .before .before .before .pre .0), ((c .before .before .before .before .before .before .before .pre
-    .1), left-symbol _ _ _ (c .before .before .before .before .before .left-fault .ensures) (c .before .before .before .enum-told .given
-    .1)))
+body-fault-requires c κs = (
+  (c .before .before .before .before .before .before .before .pre .0),
+  (
+    (c .before .before .before .before .before .before .before .pre
+        .1),
+    left-symbol _ _ _ (c .before .before .before .before .before .left-fault .ensures) (c .before .before .before .enum-told .given
+        .1),
+  ),
+)
 
 returns-3 : tie.Need-returns-3
 unfolding ruleFrom

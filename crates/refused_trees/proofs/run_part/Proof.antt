@@ -17,8 +17,8 @@ slice-aggregate-run-3 c = search needs
 slice-aggregate-run-4 : tie.Need-slice-aggregate-run-4
 slice-aggregate-run-4 c =
     let e =
-        length-take (c .before .before .before .before .before .args .words) (c .before .before .before .before .before .args .tree .now)
-        in
+    length-take (c .before .before .before .before .before .args .words) (c .before .before .before .before .before .args .tree .now)
+    in
     let h = c .before .before .before .before .before .pre in
     omega (arith, e, h .0)
 
@@ -28,8 +28,8 @@ slice-relend-prefix-run c = search needs
 slice-aggregate-run-5 : tie.Need-slice-aggregate-run-5
 slice-aggregate-run-5 c =
     let e =
-        length-take (c .before .before .before .before .before .before .args .room) (c .before .before .before .before .before .before
-        .args .values .now) in
+    length-take (c .before .before .before .before .before .before .args .room) (c .before .before .before .before .before .before
+    .args .values .now) in
     let h = c .before .before .before .before .before .before .pre in
     omega (arith, e, h .1)
 

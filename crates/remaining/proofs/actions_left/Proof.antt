@@ -14,9 +14,12 @@ count-requires-2 c κs = search needs
 add-result : tie.Need-add-result
 add-result c =
     record {
-        fits =
-            omega (arith, count-fits (c .before .before .args .state .computes) (c .before .count .result) (c .before .count .ensures),
-            count-fits (c .before .before .args .state .visits) (c .count2 .result) (c .count2 .ensures))
+      fits =
+          omega (
+            arith,
+            count-fits (c .before .before .args .state .computes) (c .before .count .result) (c .before .count .ensures),
+            count-fits (c .before .before .args .state .visits) (c .count2 .result) (c .count2 .ensures),
+          );
     }
 
 count-requires-3 : tie.Need-count-requires-3
@@ -24,15 +27,22 @@ count-requires-3 c κs = search needs
 
 add-result-2 : tie.Need-add-result-2
 add-result-2 c =
-    record { fits = omega (arith, counts-fit (c .before .before .before .args .state .computes) (c .before .before .before .args .state
-    .visits) (c .before .before .before .args .state .leaves) _ _ _ (c .before .before .count .ensures) (c .before .count2 .ensures) (c
-    .count3 .ensures)) }
+    record {
+      fits = omega (
+        arith,
+        counts-fit (c .before .before .before .args .state .computes) (c .before .before .before .args .state
+            .visits) (c .before .before .before .args .state .leaves) _ _ _ (c .before .before .count .ensures) (c .before .count2 .ensures) (c
+            .count3 .ensures),
+      );
+    }
 
 returns : tie.Need-returns
-returns c =
-    (omega (arith, (c .before .before .count .ensures), (c .before .count2 .ensures), (c .count3 .ensures)), counts-fit (c .before .before
-    .before .args .state .computes) (c .before .before .before .args .state .visits) (c .before .before .before .args .state .leaves) _ _ _
-    (c .before .before .count .ensures) (c .before .count2 .ensures) (c .count3 .ensures))
+returns c = (
+  omega (arith, (c .before .before .count .ensures), (c .before .count2 .ensures), (c .count3 .ensures)),
+  counts-fit (c .before .before
+      .before .args .state .computes) (c .before .before .before .args .state .visits) (c .before .before .before .args .state .leaves) _ _ _
+      (c .before .before .count .ensures) (c .before .count2 .ensures) (c .count3 .ensures),
+)
 
 pub actions-left-spec : {M : Type 1} → statement M
 actions-left-spec =

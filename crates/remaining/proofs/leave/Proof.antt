@@ -24,11 +24,11 @@ minus-requires c κs = search needs
 
 returns : tie.Need-returns
 returns c = record {
-    actionIs = search needs;
-    computesAre = search needs;
-    visitsAre = search needs;
-    leavesAre = search needs;
-    waitingAre = search down-by
+  actionIs = search needs;
+  computesAre = search needs;
+  visitsAre = search needs;
+  leavesAre = search needs;
+  waitingAre = search down-by;
 }
 
 pub leave-spec : {M : Type 1} → statement M

@@ -30,11 +30,11 @@ minus-requires c κs = search needs
 
 returns : tie.Need-returns
 returns c = record {
-    actionIs = search needs;
-    computesAre = search needs;
-    visitsAre = search needs;
-    leavesAre = search needs;
-    waitingAre = search up-by
+  actionIs = search needs;
+  computesAre = search needs;
+  visitsAre = search needs;
+  leavesAre = search needs;
+  waitingAre = search up-by;
 }
 
 pub visit-spec : {M : Type 1} → statement M

@@ -21,8 +21,8 @@ slice-aggregate-run-2 c = search needs
 slice-aggregate-run-3 : tie.Need-slice-aggregate-run-3
 slice-aggregate-run-3 c =
     let e =
-        length-take (8 * (c .before .before .before .before .before .args .nodes)) (c .before .before .before .before .before .args .tree
-        .now) in
+    length-take (8 * (c .before .before .before .before .before .args .nodes)) (c .before .before .before .before .before .args .tree
+    .now) in
     let h = c .before .before .before .before .before .pre in
     omega (arith, e, h .0 .0, h .1)
 

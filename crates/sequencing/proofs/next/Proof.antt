@@ -2,7 +2,15 @@
 -- so, and some action always is: so the lowest ready one is a compute, else a visit, else the lowest leave. Assumes nothing.
 use borrow.Author.Needs.{needs}
 use Rattle.sequencing.proofs.NextLaws.{
-    place-small, rows-ready, children-left, next-compute, next-visit, visit-child, next-leave, leaves-left, leave-left
+  place-small,
+  rows-ready,
+  children-left,
+  next-compute,
+  next-visit,
+  visit-child,
+  next-leave,
+  leaves-left,
+  leave-left,
 }
 use Rattle.sequencing.proofs.next.Statement.{statement}
 use Rattle.sequencing.proofs.next.Tie as tie

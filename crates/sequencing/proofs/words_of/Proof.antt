@@ -3,7 +3,13 @@
 use borrow.Author.Needs.{needs}
 use Prim.Native.Nat.{_-_}
 use Rattle.sequencing.proofs.WritingLaws.{
-    shaped-given, few-given, Writing, writing-start, writing-left, writing-turn, writing-finish
+  shaped-given,
+  few-given,
+  Writing,
+  writing-start,
+  writing-left,
+  writing-turn,
+  writing-finish,
 }
 use Rattle.sequencing.proofs.NextLaws.{place-small}
 use Rattle.sequencing.proofs.words_of.Statement.{statement}

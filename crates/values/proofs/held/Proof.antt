@@ -14,8 +14,8 @@ cast-result : tie.Need-cast-result
 cast-result c =
     subst⁻¹ (SFits w32) (toZ-ofZ (c .before .before .fits .x))
     (within-fits (c .before .before .args .x) (tested {y =
-        least} (c .before .before .fits .x) (sfits-lit tt) (c .before .if1 .left)) (tested {x = greatest} (sfits-lit tt) (c .before .before
-        .fits .x) (c .if2 .left)))
+    least} (c .before .before .fits .x) (sfits-lit tt) (c .before .if1 .left)) (tested {x = greatest} (sfits-lit tt) (c .before .before
+    .fits .x) (c .if2 .left)))
 
 returns : tie.Need-returns
 returns c = sym (hold-under (c .before .args .x) (tested {y = least} (c .before .fits .x) (sfits-lit tt) (c .if1 .taken)))
