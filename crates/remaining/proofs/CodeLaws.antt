@@ -14,7 +14,7 @@ use Rattle.basics.specs.Tests.{_and_}
 use Rattle.basics.proofs.TestLaws.{below-or-not}
 use Rattle.bits.specs.Bit as bits
 use Rattle.bits.proofs.CountLaws.{count-le}
-use Rattle.bits.specs.Bit.{bit, number, collect, insert, below, union, common, minus, field, lowest, raised}
+use Rattle.bits.specs.Bit.{bit, number, collect, insert, below, union, minus, raised}
 use Rattle.bits.proofs.BitLaws.{bit-above, bit-below, bit-of-zero}
 use Rattle.bits.proofs.CollectLaws.{collect-lt, bit-collect-above}
 use Rattle.bits.proofs.MemberLaws.{hasb-collect, hasb-below}
@@ -30,7 +30,6 @@ use Rattle.remaining.specs.RuleSets.{
   madeAttributes,
   visitFrom,
   madeFrom,
-  visitReady,
   Few,
   Started,
   handedUp,
@@ -261,7 +260,7 @@ module _ (g s : List ℕ) (p : ℕ) where
         shaped = w;
         few = few;
         foundIs =
-            sym (no-member 8 (collect 8 (λ b. visitFrom g s p b)) (collect-lt 8 _)
+            sym (no-member (collect 8 (λ b. visitFrom g s p b))
             (λ b t.
             let h : b < 8 = hasb-below 8 b (collect 8 (λ b. visitFrom g s p b)) (collect-lt 8 _) t in
             subst (λ (x : Bool). T x) (hasb-collect 8 b _ h ∙ visit-none b h) t));
@@ -299,30 +298,6 @@ module _ (g s : List ℕ) (p : ℕ) where
       w .foundIs
       ∙ (ap (λ (k : ℕ). collect (8 * (k + 1)) (λ b. visitFrom g s p b)) e
       ∙ sym (collect-rest (8 * (lengthAt g p + 1)) 64 (λ b. visitFrom g s p b) (omega (arith, w .shaped .short)) visit-past))
-
--- ---- when a visit is ready
-module _ (g s : List ℕ) (p visits waiting : ℕ) where
-  -- the test as the code makes it
-  pub later-one : (b bits low : ℕ) → bits ≡ field (8 * (b / 8)) visits → low ≡ lowest 64 bits → low < b % 8
-      → false ≡ visitReady g s p visits waiting b
-  unfolding visitReady _and_
-  later-one b bits low e f l =
-      sym (ap (λ (t : Bool). t and eqb (common (field (8 * (b / 8)) waiting) (inheritedMask s (symbolFrom g p (b / 8)) (b % 8 + 1))) 0)
-      (lt-leb (b % 8) (lowest 64 (field (8 * (b / 8)) visits)) (omega (arith, f ∙ ap (lowest 64) e))))
-
-  pub next-one : (b bits low x down there both : ℕ) → bits ≡ field (8 * (b / 8)) visits → low ≡ lowest 64 bits → b % 8 ≤ low
-      → x ≡ symbolFrom g p (b / 8) → down ≡ inheritedMask s x (b % 8 + 1) → there ≡ field (8 * (b / 8)) waiting → both ≡ common there down
-      → eqb both 0 ≡ visitReady g s p visits waiting b
-  unfolding visitReady _and_
-  next-one b bits low x down there both e f l q d t h =
-      ap (λ (y : ℕ). eqb y 0) (h ∙ ap₂ common t (d ∙ ap (λ (y : ℕ). inheritedMask s y (b % 8 + 1)) q))
-      ∙ sym (ap (λ (t : Bool). t and eqb (common (field (8 * (b / 8)) waiting) (inheritedMask s (symbolFrom g p (b / 8)) (b % 8 + 1))) 0)
-      (le-leb (b % 8) (lowest 64 (field (8 * (b / 8)) visits)) (omega (arith, f ∙ ap (lowest 64) e))))
-
-  -- a visit that is looked at takes along the attributes of one of its symbol's visits
-  pub visit-inside : (b x : ℕ) → b % 8 < Rattle.sets.specs.Visits.visits s (symbolFrom g p (b / 8)) → x ≡ symbolFrom g p (b / 8)
-      → b % 8 + 1 ≤ Rattle.sets.specs.Visits.visits s x + 1
-  visit-inside b x h e = omega (arith, ap (λ (y : ℕ). Rattle.sets.specs.Visits.visits s y) e)
 
 -- ---- what is left before the first action, and after one
 pub started-by : (g s : List ℕ) (p x c v n l m d w : ℕ) → x ≡ symbolFrom g p 0 → c ≡ definingsAt g p → v ≡ collect 64 (λ b. visitFrom g s p b)

@@ -1,3 +1,4 @@
 pub mod RemainsLaws
 pub mod MaskLaws
 pub mod CodeLaws
+pub mod ReadySetLaws

@@ -168,25 +168,53 @@ pub fn start(words: &[u16], p: usize, sets: &[u16]) -> State
     }
 }
 
-// Visit b is ready: it is the next one of its child, and none of the inherited attributes that it takes along waits.
-pub fn visit_ready(
-    words: &[u16],
-    p: usize,
-    sets: &[u16],
-    visits: u64,
-    waiting: u64,
-    b: usize,
-) -> bool
-    requires { ⌜ (p < 65536) × (b < 64) ⌝ }
-    requires { ⌜ b % 8 < visiting.visits (now sets) (places.symbolFrom (now words) p (b / 8)) ⌝ }
-    ensures { λ r. ⌜ r ≡ masks.visitReady (now (words .entry)) (now (sets .entry)) p visits waiting b ⌝ }
+// What each of the visits takes along, found once a rule: the child's inherited attributes of that visit.
+pub fn taken_along(words: &[u16], p: usize, sets: &[u16], visits: u64) -> [u64; 64]
+    requires { ⌜ p < 65536 ⌝ }
+    requires { ⌜ masks.Children (now words) (now sets) p visits ⌝ }
+    ensures { λ down. ⌜ masks.Along (now (words .entry)) (now (sets .entry)) p visits down ⌝ }
 {
-    let i = b / 8;
-    if bits::lowest(bits::field(visits, 8 * i)) < b % 8 {
-        return false;
+    let mut down = [0u64; 64];
+    let mut left = visits;
+    while left != 0 {
+        let b = bits::first(left);
+        let i = b / 8;
+        let mask = inherited_of(sets, access::symbol_of(words, p, i), b % 8 + 1);
+        down[b] = bits::raised(mask, 8 * i);
+        left = bits::rest(left);
     }
-    let down = inherited_of(sets, access::symbol_of(words, p, i), b % 8 + 1);
-    bits::common(bits::field(waiting, 8 * i), down) == 0
+    down
+}
+
+// The visits that are ready: the next one of each child, where nothing that it takes along waits.
+pub fn ready_visits(down: &[u64; 64], visits: u64, waiting: u64) -> u64
+    ensures { λ r. ⌜ r ≡ masks.readyVisits (now (down .entry)) visits waiting ⌝ }
+{
+    let mut left = visits;
+    let mut ready = 0;
+    while left != 0 {
+        let b = bits::first(left);
+        ready = put(ready, b, bits::common(down[b], waiting) == 0);
+        left = bits::minus(left, bits::raised(255, 8 * (b / 8)));
+    }
+    ready
+}
+
+// The leaves that are ready. Only the next one can be: the last one where nothing else is left, another where nothing that it hands up waits.
+pub fn ready_leaves(words: &[u16], p: usize, sets: &[u16], state: State) -> u64
+    requires { ⌜ p < 65536 ⌝ }
+    requires { ⌜ masks.Leaves (now words) (now sets) p (state .leaves) ⌝ }
+    ensures { λ r. ⌜ r ≡ masks.readyLeaves (now (words .entry)) (now (sets .entry)) p (state .computes) (state .visits) (state .leaves) (state .waiting) ⌝ }
+{
+    if state.leaves == 0 {
+        return 0;
+    }
+    let b = bits::first(state.leaves);
+    if bits::rest(state.leaves) == 0 {
+        return put(0, b, bits::union(state.computes, state.visits) == 0);
+    }
+    let up = synthesized_of(sets, access::symbol_of(words, p, 0), b + 1);
+    put(0, b, bits::common(up, state.waiting) == 0)
 }
 
 // Compute occurrence o.

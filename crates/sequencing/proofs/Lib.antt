@@ -1,9 +1,8 @@
 pub mod Makers
 pub mod ReadyLaws
 pub mod OrderSteps
-pub mod ReadySetLaws
 pub mod NextLaws
-pub mod CodeLaws
+pub mod BlockedLaws
 pub mod StartLaws
 pub mod WritingLaws
 pub mod RowsLaws

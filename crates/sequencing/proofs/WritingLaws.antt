@@ -1,7 +1,9 @@
 -- The words of the sequence, action after action: what is written is the start of the construction, and what is left gives its rest.
 -- The block then goes into the plan word by word. Assumes nothing.
 use Prim.Native.Nat.{ℕ, suc, _+_, _*_, _-_, _≤_, _<_}
-use mathlib.Core.Path.{_≡_, refl, sym, _∙_, ap, ap₂}
+use mathlib.Core.Path.{_≡_, refl, sym, _∙_, ap, ap₂, subst, subst⁻¹}
+use mathlib.Core.Bool.{Bool}
+use lib.Dec.{T}
 use mathlib.Core.List.{List, [], _∷_, _++_, append-assoc}
 use native.Mathlib.Omega.{arith}
 use native.Mathlib.Numerals.{add-one}
@@ -21,8 +23,9 @@ use Rattle.plans.specs.Buffers.{sequenceWords}
 use Rattle.sequencing.specs.Given.{Given, written}
 use Rattle.remaining.specs.Remaining.{remains, remaining}
 use Rattle.sequencing.specs.Going.{Going, Taken}
-use Rattle.remaining.specs.RuleSets.{Few, Started}
-use Rattle.sequencing.proofs.NextLaws.{five-visits}
+use Rattle.remaining.specs.RuleSets.{Few, Children, Along, Started}
+use Rattle.remaining.proofs.RemainsLaws.{remains-visit}
+use Rattle.sequencing.proofs.NextLaws.{five-visits, children-left}
 use Rattle.sequencing.proofs.StartLaws.{starts-going, starts-all, starts-count}
 
 module _ (g s rows : List ℕ) (p r : ℕ) where
@@ -33,7 +36,8 @@ module _ (g s rows : List ℕ) (p r : ℕ) where
   few-given given i h = five-visits g s rows p r given (symbolFrom g p i)
 
   -- after j actions, of n
-  pub record Writing (n : ℕ) (block : List ℕ) (c v l w j : ℕ) : Type 0 where
+  pub record Writing (n : ℕ) (down block : List ℕ) (c v l w j : ℕ) : Type 0 where
+    pub along : Along g s p v down
     pub inside : j ≤ n
     pub short : n ≤ 104
     pub left : length (remaining (remains c v l)) + j ≡ n
@@ -44,14 +48,19 @@ module _ (g s rows : List ℕ) (p r : ℕ) where
     pub rest : sequenceOf g (idsOf g) s r
         ≡ out ++ order (λ a b. follows g (idsOf g) s r a b) (n - j) (remaining (remains c v l))
 
-  pub writing-start : (c v l w n : ℕ) → Given g s rows p r → Started g s p c v l w → n ≡ bits.count 64 c + bits.count 64 v + bits.count 64 l
-      → Writing n (n ∷ replicate 111 0) c v l w 0
+  -- the visits that are left at the start are visits of children
+  pub children-start : (c v l w : ℕ) → Given g s rows p r → Started g s p c v l w → Children g s p v
+  children-start c v l w given started = children-left g s rows p r c v l w given (starts-going g s rows p r given c v l w started)
+
+  pub writing-start : (c v l w n : ℕ) (down : List ℕ) → Given g s rows p r → Started g s p c v l w
+      → n ≡ bits.count 64 c + bits.count 64 v + bits.count 64 l → Along g s p v down → Writing n down (n ∷ replicate 111 0) c v l w 0
   unfolding sequenceOf
-  writing-start c v l w n given started e =
+  writing-start c v l w n down given started e along =
       let f : n ≡ length (remaining (remains c v l)) = e ∙ starts-count g s rows p r given c v l w started in
       let whole : n - 0 ≡ n = omega arith in
       let a : remaining (remains c v l) ≡ actionsOf g s r = starts-all g s rows p r given c v l w started in
       record {
+        along = along;
         inside = omega arith;
         short = omega (arith, ap length a, at-most-104 g s r (five-visits g s rows p r given));
         left = omega arith;
@@ -64,15 +73,27 @@ module _ (g s rows : List ℕ) (p r : ℕ) where
       }
 
   -- some action is left, and its word has room
-  pub writing-left : (n : ℕ) (block : List ℕ) (c v l w j : ℕ) → Writing n block c v l w j → j < n → 1 ≤ length (remaining (remains c v l))
-  writing-left n block c v l w j k h = omega (arith, k .left)
+  pub writing-left : (n : ℕ) (down block : List ℕ) (c v l w j : ℕ) → Writing n down block c v l w j → j < n → 1 ≤ length (remaining (remains c v l))
+  writing-left n down block c v l w j k h = omega (arith, k .left)
 
-  pub writing-turn : (n : ℕ) (block : List ℕ) (c v l w j a c′ v′ l′ w′ : ℕ) → Writing n block c v l w j → j < n
-      → Taken g (idsOf g) s r (remains c v l) a (remains c′ v′ l′) w′ → Writing n (set block (j + 1) a) c′ v′ l′ w′ (j + 1)
-  writing-turn n block c v l w j a c′ v′ l′ w′ k h t =
+  -- fewer visits are left, so the table still has what they take along
+  still-along : (down : List ℕ) (c v l c′ v′ l′ : ℕ) → Along g s p v down → ((a : ℕ) → T (remains c′ v′ l′ a) → T (remains c v l a))
+      → Along g s p v′ down
+  still-along down c v l c′ v′ l′ along within =
+      record {
+        is = λ b h t.
+            along .is b h
+            (subst (λ (x : Bool). T x) (remains-visit c v l b h)
+            (within (64 + b) (subst⁻¹ (λ (x : Bool). T x) (remains-visit c′ v′ l′ b h) t)));
+      }
+
+  pub writing-turn : (n : ℕ) (down block : List ℕ) (c v l w j a c′ v′ l′ w′ : ℕ) → Writing n down block c v l w j → j < n
+      → Taken g (idsOf g) s r (remains c v l) a (remains c′ v′ l′) w′ → Writing n down (set block (j + 1) a) c′ v′ l′ w′ (j + 1)
+  writing-turn n down block c v l w j a c′ v′ l′ w′ k h t =
       let more : 111 - j ≡ suc (111 - (j + 1)) = omega (arith, k .short) in
       let steps : n - j ≡ suc (n - (j + 1)) = omega arith in
       record {
+        along = still-along down c v l c′ v′ l′ (k .along) (t .within);
         inside = omega arith;
         short = k .short;
         left = omega (arith, k .left, t .fewer);
@@ -91,10 +112,10 @@ module _ (g s rows : List ℕ) (p r : ℕ) where
             ∙ sym (append-assoc (k .out) (a ∷ []) (order (λ a b. follows g (idsOf g) s r a b) (n - (j + 1)) (remaining (remains c′ v′ l′))))));
       }
 
-  pub writing-finish : (n : ℕ) (block : List ℕ) (c v l w j : ℕ) → Writing n block c v l w j → n ≤ j
+  pub writing-finish : (n : ℕ) (down block : List ℕ) (c v l w j : ℕ) → Writing n down block c v l w j → n ≤ j
       → block ≡ sequenceWords (sequenceOf g (idsOf g) s r)
   unfolding order sequenceWords padded
-  writing-finish n block c v l w j k h =
+  writing-finish n down block c v l w j k h =
       let e : j ≡ n = omega (arith, k .inside) in
       let z : n - j ≡ 0 = omega arith in
       let all : sequenceOf g (idsOf g) s r ≡ k .out =

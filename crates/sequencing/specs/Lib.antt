@@ -1,3 +1,3 @@
+pub mod Blocked
 pub mod Given
 pub mod Going
-pub mod ReadySets

@@ -13,16 +13,17 @@ ghost use Rattle.relations.specs.Computed.{idsOf};
 ghost use Rattle.sets.specs.Computed.{setsOf};
 ghost use Rattle.sequences.specs.Order.{sequenceOf};
 ghost use Rattle.plans.specs.Buffers.{sequenceWords};
+ghost use Rattle.remaining.specs.RuleSets as masks;
 ghost use Rattle.remaining.specs.Remaining as spec;
 ghost use Rattle.sequencing.specs.Given as given;
-ghost use Rattle.sequencing.specs.ReadySets as masks;
+ghost use Rattle.sequencing.specs.Blocked as blocking;
 ghost use Rattle.sequencing.specs.Going as going;
 
 // The occurrences to which a path leads from one that waits. Where one that waits leads to another, the other blocks nothing more.
 fn blocked(rows: &[u64], base: usize, waiting: u64) -> u64
     requires { ⌜ base + 64 ≤ length (now rows) ⌝ }
-    requires { ⌜ masks.Closed (now rows) base ⌝ }
-    ensures { λ r. ⌜ masks.Blocked (now (rows .entry)) base waiting r ⌝ }
+    requires { ⌜ blocking.Closed (now rows) base ⌝ }
+    ensures { λ r. ⌜ blocking.Blocked (now (rows .entry)) base waiting r ⌝ }
 {
     let mut left = waiting;
     let mut blocked = 0;
@@ -34,39 +35,32 @@ fn blocked(rows: &[u64], base: usize, waiting: u64) -> u64
     blocked
 }
 
-// The lowest visit that is ready, alone in a set, or no visit: those above it need no look.
-fn ready_visit(words: &[u16], p: usize, sets: &[u16], visits: u64, waiting: u64) -> u64
-    requires { ⌜ p < 65536 ⌝ }
-    requires { ⌜ masks.Children (now words) (now sets) p visits ⌝ }
-    ensures { λ r. ⌜ masks.Leading (masks.readyVisits (now (words .entry)) (now (sets .entry)) p visits waiting) r ⌝ }
-{
-    let mut left = visits;
-    while left != 0 {
-        let b = bits::first(left);
-        if remaining::visit_ready(words, p, sets, visits, waiting, b) {
-            return bits::single(b);
-        }
-        left = bits::rest(left);
-    }
-    0
-}
-
-// The lowest action that is ready. Computes come before visits, visits before leaves; where no other action is ready the next leave is.
-fn next(words: &[u16], p: usize, r: usize, sets: &[u16], rows: &[u64], state: State) -> Step
+// The lowest action that is ready. Computes come before visits, visits before leaves; an ordered rule always has one that is ready.
+fn next(
+    words: &[u16],
+    p: usize,
+    r: usize,
+    sets: &[u16],
+    rows: &[u64],
+    down: &[u64; 64],
+    state: State,
+) -> Step
     requires { ⌜ given.Given (now words) (now sets) (now rows) p r ⌝ }
     requires { ⌜ going.Going (now words) (idsOf (now words)) (now sets) r (spec.remains (state .computes) (state .visits) (state .leaves)) (state .waiting) ⌝ }
     requires { ⌜ 1 ≤ length (spec.remaining (spec.remains (state .computes) (state .visits) (state .leaves))) ⌝ }
+    requires { ⌜ masks.Along (now words) (now sets) p (state .visits) (now down) ⌝ }
     ensures { λ s. ⌜ going.Taken (now (words .entry)) (idsOf (now (words .entry))) (now (sets .entry)) r (spec.remains (state .computes) (state .visits) (state .leaves)) (s .action) (spec.remains (s .state .computes) (s .state .visits) (s .state .leaves)) (s .state .waiting) ⌝ }
 {
     let computes = bits::minus(state.computes, blocked(rows, 64 * r, state.waiting));
     if computes != 0 {
         return remaining::compute(state, bits::first(computes));
     }
-    let visits = ready_visit(words, p, sets, state.visits, state.waiting);
+    let visits = remaining::ready_visits(down, state.visits, state.waiting);
     if visits != 0 {
         return remaining::visit(words, p, sets, state, bits::first(visits));
     }
-    remaining::leave(words, p, sets, state, bits::first(state.leaves))
+    let leaves = remaining::ready_leaves(words, p, sets, state);
+    remaining::leave(words, p, sets, state, bits::first(leaves))
 }
 
 // The words of the sequence: length, actions, zeros.
@@ -76,10 +70,11 @@ fn words_of(words: &[u16], p: usize, r: usize, sets: &[u16], rows: &[u64]) -> [u
 {
     let mut state = remaining::start(words, p, sets);
     let n = remaining::actions_left(state);
+    let down = remaining::taken_along(words, p, sets, state.visits);
     let mut block = [0u16; RULE_WORDS];
     block[0] = n as u16;
     for j in 0..n {
-        let step = next(words, p, r, sets, rows, state);
+        let step = next(words, p, r, sets, rows, &down, state);
         block[j + 1] = step.action as u16;
         state = step.state;
     }

@@ -1,6 +1,6 @@
 -- `sequencing::blocked` meets its contract. At every turn the set holds the rows of the occurrences that are done; in the end all are done.
 -- The measure is what is left of the waiting ones, as a number. Assumes nothing.
-use Rattle.sequencing.proofs.CodeLaws.{Blocking, blocking-start, blocking-turn, blocking-less, blocking-finish}
+use Rattle.sequencing.proofs.BlockedLaws.{Blocking, blocking-start, blocking-turn, blocking-less, blocking-finish}
 use borrow.Author.Needs.{needs}
 use Rattle.sequencing.proofs.blocked.Statement.{statement}
 use Rattle.sequencing.proofs.blocked.Tie as tie

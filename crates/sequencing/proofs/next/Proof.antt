@@ -1,16 +1,16 @@
--- `sequencing::next` meets its contract. A compute is ready exactly where nothing that waits has a path to it, a visit exactly where its test says
--- so, and some action always is: so the lowest ready one is a compute, else a visit, else the lowest leave. Assumes nothing.
+-- `sequencing::next` meets its contract. Each of the three sets has exactly the actions of its kind that are ready, and some action always is: so the
+-- lowest member of the first set that is not empty is the lowest ready action. Assumes nothing.
 use borrow.Author.Needs.{needs}
 use Rattle.sequencing.proofs.NextLaws.{
   place-small,
   rows-ready,
-  children-left,
   next-compute,
   next-visit,
   visit-child,
   next-leave,
   leaves-left,
-  leave-left,
+  leave-ready-then,
+  leave-inside,
 }
 use Rattle.sequencing.proofs.next.Statement.{statement}
 use Rattle.sequencing.proofs.next.Tie as tie
@@ -33,8 +33,8 @@ compute-requires c κs = search needs
 returns : tie.Need-returns
 returns c = search next-compute
 
-ready-visit-requires : tie.Need-ready-visit-requires
-ready-visit-requires c κs = (search place-small, search children-left)
+ready-visits-requires : tie.Need-ready-visits-requires
+ready-visits-requires c κs = search needs
 
 first-requires-2 : tie.Need-first-requires-2
 first-requires-2 c κs = search needs
@@ -45,11 +45,14 @@ visit-requires c κs = ((search place-small, search needs), search visit-child)
 returns-2 : tie.Need-returns-2
 returns-2 c = search (next-visit, needs)
 
+ready-leaves-requires : tie.Need-ready-leaves-requires
+ready-leaves-requires c κs = (search place-small, search leaves-left)
+
 first-requires-3 : tie.Need-first-requires-3
-first-requires-3 c κs = search (leaves-left, needs)
+first-requires-3 c κs = search (leave-ready-then, needs)
 
 leave-requires : tie.Need-leave-requires
-leave-requires c κs = ((search place-small, search needs), search leave-left)
+leave-requires c κs = ((search place-small, search needs), search leave-inside)
 
 returns-3 : tie.Need-returns-3
 returns-3 c = search (next-leave, needs)
@@ -64,10 +67,11 @@ next-spec =
     first-requires
     compute-requires
     returns
-    ready-visit-requires
+    ready-visits-requires
     first-requires-2
     visit-requires
     returns-2
+    ready-leaves-requires
     first-requires-3
     leave-requires
     returns-3)

@@ -5,6 +5,7 @@ use Prim.Native.Nat.{_-_}
 use Rattle.sequencing.proofs.WritingLaws.{
   shaped-given,
   few-given,
+  children-start,
   Writing,
   writing-start,
   writing-left,
@@ -16,17 +17,20 @@ use Rattle.sequencing.proofs.words_of.Statement.{statement}
 use Rattle.sequencing.proofs.words_of.Tie as tie
 
 abbrev Inv-loop : tie.InvT-loop
-Inv-loop words p r sets rows state₀ n block₀ j₀ state block j =
-    Writing words sets rows p r n block (state .computes) (state .visits) (state .leaves) (state .waiting) j
+Inv-loop words p r sets rows state₀ n down block₀ j₀ state block j =
+    Writing words sets rows p r n down block (state .computes) (state .visits) (state .leaves) (state .waiting) j
 
 abbrev μ-loop : tie.MeasureT-loop
-μ-loop words p r sets rows state₀ n block₀ j₀ state block j = n - j
+μ-loop words p r sets rows state₀ n down block₀ j₀ state block j = n - j
 
 start-requires : tie.Need-start-requires Inv-loop μ-loop
 start-requires c κs = (search place-small, (search shaped-given, search few-given))
 
 actions-left-requires : tie.Need-actions-left-requires Inv-loop μ-loop
 actions-left-requires c κs = search needs
+
+taken-along-requires : tie.Need-taken-along-requires Inv-loop μ-loop
+taken-along-requires c κs = (search place-small, search children-start)
 
 cast-block : tie.Need-cast-block Inv-loop μ-loop
 cast-block c = search needs
@@ -38,7 +42,7 @@ loop-holds : tie.Need-loop-holds Inv-loop μ-loop
 loop-holds c = search writing-start
 
 next-requires : tie.Need-next-requires Inv-loop μ-loop
-next-requires c κs = (search needs, (search needs, search (writing-left, needs)))
+next-requires c κs = (search needs, (search needs, (search (writing-left, needs), search needs)))
 
 cast-block-2 : tie.Need-cast-block-2 Inv-loop μ-loop
 cast-block-2 c = search needs
@@ -72,6 +76,7 @@ words-of-spec =
     μ-loop
     start-requires
     actions-left-requires
+    taken-along-requires
     cast-block
     array-write-block
     loop-holds
