@@ -93,7 +93,7 @@ pub fn raised(set: u64, n: usize) -> u64
 }
 
 // The lowest member, or 64 where there is none.
-pub fn lowest(set: u64) -> usize
+fn lowest(set: u64) -> usize
     ensures { λ r. ⌜ r ≡ sets.lowest 64 set ⌝ }
 {
     place(u64::trailing_zeros(set))

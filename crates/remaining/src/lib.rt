@@ -80,7 +80,7 @@ pub fn visits_of(sets: &[u16], x: usize) -> usize
 }
 
 // The inherited attributes of visit n of symbol x, which it takes along.
-pub fn inherited_of(sets: &[u16], x: usize, n: usize) -> u64
+fn inherited_of(sets: &[u16], x: usize, n: usize) -> u64
     requires { ⌜ x < 65536 ⌝ }
     requires { ⌜ n ≤ visiting.visits (now sets) x + 1 ⌝ }
     ensures { λ r. ⌜ r ≡ masks.inheritedMask (now (sets .entry)) x n ⌝ }
@@ -89,7 +89,7 @@ pub fn inherited_of(sets: &[u16], x: usize, n: usize) -> u64
 }
 
 // The synthesized ones, which it makes available.
-pub fn synthesized_of(sets: &[u16], x: usize, n: usize) -> u64
+fn synthesized_of(sets: &[u16], x: usize, n: usize) -> u64
     requires { ⌜ x < 65536 ⌝ }
     requires { ⌜ n ≤ visiting.visits (now sets) x ⌝ }
     ensures { λ r. ⌜ r ≡ masks.synthesizedMask (now (sets .entry)) x n ⌝ }
