@@ -19,6 +19,28 @@ pub fn word(words: &[u16], p: usize) -> usize
     0
 }
 
+// How many symbols and rules the table has, and its start symbol.
+pub fn symbols(words: &[u16]) -> usize
+    ensures { λ r. ⌜ r ≡ table.symbols (now (words .entry)) ⌝ }
+    ensures { λ r. ⌜ r < 65536 ⌝ }
+{
+    word(words, 0)
+}
+
+pub fn rules(words: &[u16]) -> usize
+    ensures { λ r. ⌜ r ≡ table.rules (now (words .entry)) ⌝ }
+    ensures { λ r. ⌜ r < 65536 ⌝ }
+{
+    word(words, 1)
+}
+
+pub fn start(words: &[u16]) -> usize
+    ensures { λ r. ⌜ r ≡ table.start (now (words .entry)) ⌝ }
+    ensures { λ r. ⌜ r < 65536 ⌝ }
+{
+    word(words, 2)
+}
+
 // The three words of a symbol.
 pub fn kind(words: &[u16], x: usize) -> usize
     requires { ⌜ x < 65536 ⌝ }

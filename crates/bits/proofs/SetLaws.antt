@@ -4,6 +4,7 @@ use Prim.Native.Nat.{ℕ, zero, suc, _+_, _-_, _*_, _/_, _%_, _^_, _<_, min, max
 use native.Mathlib.Nat.{lt-of-le-of-lt, sub-le, mul-one, one-mul, zero-mul, pow-suc, mul-assoc}
 use native.Mathlib.Omega.{arith}
 use mathlib.Core.Path.{_≡_, sym, ap, ap₂, _∙_, subst}
+use mathlib.Core.Bool.{Bool, true, cond}
 use mathlib.Core.Logic.{_⊎_, inl, inr}
 use lib.Bits.{bitAnd, bitOr, and-step, and-mask, or-add-and, or-lt, and-le-l}
 use lib.Pow.{pow-pos, pow-lt}
@@ -104,3 +105,7 @@ remove-lt w i s h = lt-of-le-of-lt (sub-le s (bit i s * 2 ^ i)) h
 pub remove-less : (i s : ℕ) → bit i s ≡ 1 → remove i s < s
 unfolding remove
 remove-less i s e = omega (arith, and-single i s, and-le-l s (2 ^ i), ap (λ (b : ℕ). b * 2 ^ i) e ∙ one-mul (2 ^ i), pow-pos i)
+
+-- a member that is put in where a test holds
+pub put-yes : (set i r : ℕ) (t : Bool) → t ≡ true → r ≡ insert i set → r ≡ cond t (insert i set) set
+put-yes set i r t e h = h ∙ sym (ap (λ (b : Bool). cond b (insert i set) set) e)

@@ -1,6 +1,7 @@
 // Sets of the numbers 0 to 63, each kept as the bits of one u64: i is a member where bit i is 1.
 // What each function answers is the operation of specs/Bit.antt that bears its name.
 ghost use mathlib.Core.Path.{_≡_};
+ghost use mathlib.Core.Bool.{cond};
 ghost use Prim.Native.Nat.{_≤_, _<_};
 ghost use Rattle.bits.specs.Bit as sets;
 
@@ -38,6 +39,17 @@ pub fn with(set: u64, i: usize) -> u64
     ensures { λ r. ⌜ r ≡ sets.insert i set ⌝ }
 {
     set | single(i)
+}
+
+// The set with i, if the test holds.
+pub fn put(set: u64, i: usize, holds: bool) -> u64
+    requires { ⌜ i < 64 ⌝ }
+    ensures { λ r. ⌜ r ≡ cond holds (sets.insert i set) set ⌝ }
+{
+    if holds {
+        return with(set, i);
+    }
+    set
 }
 
 // The set without i.

@@ -119,12 +119,6 @@ pub stays-by : (arcs unplaced class a bits both past : ℕ) → bits ≡ field (
 stays-by arcs unplaced class a bits both past e f h =
     ap (λ (x : ℕ). eqb x 0) (h ∙ ap (λ (x : ℕ). minus x class) (f ∙ ap (λ (x : ℕ). common x unplaced) e))
 
-pub kept-yes : (taken a r : ℕ) (t : Bool) → t ≡ true → r ≡ insert a taken → r ≡ cond t (insert a taken) taken
-kept-yes taken a r t e h = h ∙ sym (ap (λ (b : Bool). cond b (insert a taken) taken) e)
-
-pub kept-no : (taken a : ℕ) (t : Bool) → t ≡ false → taken ≡ cond t (insert a taken) taken
-kept-no taken a t e = sym (ap (λ (b : Bool). cond b (insert a taken) taken) e)
-
 -- the numbers of a set are written one after the other
 pub record Numbering (entry : List ℕ) (at taken k : ℕ) (sets : List ℕ) (left : ℕ) : Type 0 where
   pub small : left < 2 ^ 8

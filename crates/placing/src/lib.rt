@@ -20,17 +20,6 @@ fn stays(arcs: u64, unplaced: u64, class: u64, a: usize) -> bool
     bits::minus(bits::common(bits::field(arcs, 8 * a), unplaced), class) == 0
 }
 
-// The set with a, if its successors allow it.
-fn kept(taken: u64, a: usize, stays: bool) -> u64
-    requires { ⌜ a < 64 ⌝ }
-    ensures { λ r. ⌜ r ≡ cond stays (bit.insert a taken) taken ⌝ }
-{
-    if stays {
-        return bits::with(taken, a);
-    }
-    taken
-}
-
 // What a set takes.
 fn taken_from(arcs: u64, unplaced: u64, class: u64) -> u64
     requires { ⌜ unplaced < 256 ⌝ }
@@ -41,7 +30,7 @@ fn taken_from(arcs: u64, unplaced: u64, class: u64) -> u64
     while left != 0 {
         let a = bits::first(left);
         left = bits::without(left, a);
-        taken = kept(taken, a, stays(arcs, unplaced, class, a));
+        taken = bits::put(taken, a, stays(arcs, unplaced, class, a));
     }
     taken
 }

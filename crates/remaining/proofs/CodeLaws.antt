@@ -46,9 +46,6 @@ collect-put a f = go (f a) ∙ ap (λ (k : ℕ). collect k f) (sym (add-one a))
     go true = ap (λ (x : ℕ). collect a f + (1 - x) * 2 ^ a) (bit-collect-above a a f (omega arith))
     go false = omega arith
 
-pub put-yes : (set i r : ℕ) (t : Bool) → t ≡ true → r ≡ insert i set → r ≡ cond t (insert i set) set
-put-yes set i r t e h = h ∙ sym (ap (λ (b : Bool). cond b (insert i set) set) e)
-
 -- ---- the attributes of a set
 pub record Masking (s : List ℕ) (x k mask a : ℕ) : Type 0 where
   pub inside : a ≤ 8

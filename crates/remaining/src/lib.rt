@@ -34,17 +34,6 @@ fn larger(a: usize, b: usize) -> usize
     a
 }
 
-// The set with i, if the test holds.
-fn put(set: u64, i: usize, holds: bool) -> u64
-    requires { ⌜ i < 64 ⌝ }
-    ensures { λ r. ⌜ r ≡ cond holds (bit.insert i set) set ⌝ }
-{
-    if holds {
-        return bits::with(set, i);
-    }
-    set
-}
-
 // The attributes of symbol x that are in set k.
 fn set_mask(sets: &[u16], x: usize, k: usize) -> u64
     requires { ⌜ x < 65536 ⌝ }
@@ -52,7 +41,7 @@ fn set_mask(sets: &[u16], x: usize, k: usize) -> u64
 {
     let mut mask = 0;
     for a in 0..8usize {
-        mask = put(mask, a, access::word(sets, 8 * x + a) == k);
+        mask = bits::put(mask, a, access::word(sets, 8 * x + a) == k);
     }
     mask
 }
@@ -194,7 +183,7 @@ pub fn ready_visits(down: &[u64; 64], visits: u64, waiting: u64) -> u64
     let mut ready = 0;
     while left != 0 {
         let b = bits::first(left);
-        ready = put(ready, b, bits::common(down[b], waiting) == 0);
+        ready = bits::put(ready, b, bits::common(down[b], waiting) == 0);
         left = bits::minus(left, bits::raised(255, 8 * (b / 8)));
     }
     ready
@@ -211,10 +200,10 @@ pub fn ready_leaves(words: &[u16], p: usize, sets: &[u16], state: State) -> u64
     }
     let b = bits::first(state.leaves);
     if bits::rest(state.leaves) == 0 {
-        return put(0, b, bits::union(state.computes, state.visits) == 0);
+        return bits::put(0, b, bits::union(state.computes, state.visits) == 0);
     }
     let up = synthesized_of(sets, access::symbol_of(words, p, 0), b + 1);
-    put(0, b, bits::common(up, state.waiting) == 0)
+    bits::put(0, b, bits::common(up, state.waiting) == 0)
 }
 
 // Compute occurrence o.

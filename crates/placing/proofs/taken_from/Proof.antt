@@ -26,8 +26,8 @@ without-requires c κs = search needs
 stays-requires : tie.Need-stays-requires Inv-loop μ-loop
 stays-requires c κs = search candidate-small
 
-kept-requires : tie.Need-kept-requires Inv-loop μ-loop
-kept-requires c κs = search needs
+put-requires : tie.Need-put-requires Inv-loop μ-loop
+put-requires c κs = search needs
 
 loop-less : tie.Need-loop-less Inv-loop μ-loop
 loop-less c = search taken-less
@@ -49,7 +49,7 @@ taken-from-spec =
     first-requires
     without-requires
     stays-requires
-    kept-requires
+    put-requires
     loop-less
     loop-again
     returns)

@@ -1,8 +1,8 @@
--- `remaining::put` meets its contract: the set with i where the test holds, else the set as it is. Assumes nothing.
+-- `bits::put` meets its contract: the set with i where the test holds, else the set as it is. Assumes nothing.
 use borrow.Author.Needs.{needs}
-use Rattle.remaining.proofs.CodeLaws.{put-yes}
-use Rattle.remaining.proofs.put.Statement.{statement}
-use Rattle.remaining.proofs.put.Tie as tie
+use Rattle.bits.proofs.SetLaws.{put-yes}
+use Rattle.bits.proofs.put.Statement.{statement}
+use Rattle.bits.proofs.put.Tie as tie
 
 with-requires : tie.Need-with-requires
 with-requires c κs = search needs
