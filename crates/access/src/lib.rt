@@ -1,5 +1,6 @@
 // The words of a grammar table by symbol, rule and function.
 // A rule is handed on as the word it starts at, a function too; specs/ByPlace.antt says what each is by that word.
+use grammar::Offsets;
 ghost use mathlib.Core.Path.{_≡_};
 ghost use Prim.Native.Nat.{_+_, _*_, _^_, _≤_, _<_};
 ghost use lib.ListN.{length, getD};
@@ -17,6 +18,22 @@ pub fn word(words: &[u16], p: usize) -> usize
         return words[p] as usize;
     }
     0
+}
+
+// A word as an index.
+fn wide(x: u16) -> usize
+    ensures { λ r. ⌜ (r ≡ x) × (r < 65536) ⌝ }
+{
+    x as usize
+}
+
+// The word at a place that is there. The code that runs once a table or a tree is accepted knows its length, and tests it no more.
+pub fn known(words: &[u16], p: usize) -> usize
+    requires { ⌜ p < length (now words) ⌝ }
+    ensures { λ r. ⌜ r ≡ getD (now (words .entry)) p 0 ⌝ }
+    ensures { λ r. ⌜ r < 65536 ⌝ }
+{
+    wide(words[p])
 }
 
 // How many symbols and rules the table has, and its start symbol.
@@ -71,6 +88,14 @@ pub fn nonterminal(words: &[u16], x: usize) -> bool
     ensures { λ r. ⌜ r ≡ table.nonterminal (now (words .entry)) x ⌝ }
 {
     kind(words, x) == 0
+}
+
+// The word at which rule r starts, by the offsets that reading hands on.
+pub fn rule_at(offsets: &Offsets, r: usize) -> usize
+    requires { ⌜ r < 64 ⌝ }
+    ensures { λ p. ⌜ p ≡ getD (now (offsets .entry)) r 0 ⌝ }
+{
+    wide(offsets[r])
 }
 
 // The rule at word p: its right length, the symbol at a position, how many functions, and where the first one starts.

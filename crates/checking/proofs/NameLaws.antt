@@ -14,7 +14,7 @@ use borrow.Author.Tests.{lt-leb, eq-eqb, ne-eqb}
 use Rattle.basics.specs.Tests.{count}
 use Rattle.basics.specs.Lists.{word}
 use Rattle.basics.proofs.TestLaws.{and-passed, and-failed, false-T, same-or-not, below-or-not, count-le}
-use Rattle.trees.specs.Tree.{nodes, child, usedSlots}
+use Rattle.trees.specs.Tree.{mostNodes, nodes, child, usedSlots}
 use Rattle.trees.specs.Checking.{knownWord, namesNode, onceChild}
 use Rattle.refusals.specs.declared.Refusal.the-variants.{NotOneParent}
 use Rattle.grammar.specs.declared.Verdict.{Verdict}
@@ -180,40 +180,46 @@ unfolding namedFault
 named-refused named n u e f = unless-false _ _ (sym e ∙ f)
 
 -- the walk over the nodes that fills the counts
-pub record CountedTo (g t named : List ℕ) (n : ℕ) : Type 0 where
+pub record CountedTo (g t named : List ℕ) (n end : ℕ) : Type 0 where
   pub known : Known g t
-  pub done : n ≤ nodes t
+  pub endIs : end ≡ nodes t
+  pub few : end ≤ mostNodes
+  pub done : n ≤ end
   pub names : Names g t n named
 
-pub counted-start : (g t : List ℕ) → Known g t → CountedTo g t (replicate 1024 0) 0
+pub counted-start : (g t : List ℕ) (end : ℕ) → Known g t → end ≡ nodes t → CountedTo g t (replicate mostNodes 0) 0 end
 unfolding count
-counted-start g t k =
+counted-start g t end k e =
     record {
       known = k;
+      endIs = e;
+      few = omega (arith, k .few);
       done = omega arith;
-      names = record { size = length-replicate {A = ℕ} 1024 0; counts = λ m l. getD-replicate {A = ℕ} 1024 m 0 0 l };
+      names = record { size = length-replicate {A = ℕ} mostNodes 0; counts = λ m l. getD-replicate {A = ℕ} mostNodes m 0 0 l };
     }
 
-pub counted-naming : (g t named : List ℕ) (n used : ℕ) → CountedTo g t named n → n < nodes t → used ≡ usedSlots g t n → used ≤ 7
+pub counted-naming : (g t named : List ℕ) (n end used : ℕ) → CountedTo g t named n end → n < end → used ≡ usedSlots g t n → used ≤ 7
     → Naming named t n used
-counted-naming g t named n used w h e l =
+counted-naming g t named n end used w h e l =
     record {
-      node = omega (arith, w .known .few);
-      there = h;
+      node = omega (arith, w .few);
+      there = omega (arith, w .endIs);
       short = l;
       low = λ m.
           ⊎-elim (λ b. omega (arith, w .names .counts m b, count-le (8 * n) (λ k. namesNode g t m k)))
-          (λ b. omega (arith, List·getD-eq-default named 0 {n = m} (omega (arith, w .names .size)))) (below-or-not m 1024);
+          (λ b. omega (arith, List·getD-eq-default named 0 {n = m} (omega (arith, w .names .size)))) (below-or-not m mostNodes);
       inside = λ i b.
-          let q : child t n (suc i) < nodes t = w .known .inside n (suc i) h (omega arith) (omega (arith, e)) in
+          let q : child t n (suc i) < nodes t = w .known .inside n (suc i) (omega (arith, w .endIs)) (omega arith) (omega (arith, e)) in
           omega (arith, w .names .size, w .known .few);
     }
 
-pub counted-turn : (g t named : List ℕ) (n used : ℕ) (next : List ℕ) → CountedTo g t named n → n < nodes t → used ≡ usedSlots g t n → used ≤ 7
-    → NamedMore named next t n used → CountedTo g t next (n + 1)
-counted-turn g t named n used next w h e l v =
+pub counted-turn : (g t named : List ℕ) (n end used : ℕ) (next : List ℕ) → CountedTo g t named n end → n < end → used ≡ usedSlots g t n → used ≤ 7
+    → NamedMore named next t n used → CountedTo g t next (n + 1) end
+counted-turn g t named n end used next w h e l v =
     record {
       known = w .known;
+      endIs = w .endIs;
+      few = w .few;
       done = omega arith;
       names = record {
         size = v .size ∙ w .names .size;
@@ -232,13 +238,12 @@ counted-turn g t named n used next w h e l v =
       };
     }
 
-pub counted-finish : (g t named : List ℕ) (n k : ℕ) → CountedTo g t named n → k ≡ nodes t → k ≤ n → Names g t k named
-counted-finish g t named n k w e h =
-    let q : n ≡ k = omega (arith, w .done) in subst (λ (x : ℕ). Names g t x named) q (w .names)
+pub counted-finish : (g t named : List ℕ) (n end : ℕ) → CountedTo g t named n end → end ≤ n → Names g t end named
+counted-finish g t named n end w h =
+    let q : n ≡ end = omega (arith, w .done) in subst (λ (x : ℕ). Names g t x named) q (w .names)
 
-pub counted-known : (g t named : List ℕ) (n : ℕ) → CountedTo g t named n → n < nodes t
-    → T (knownWord g t n) × ((n < 1024) × (n < nodes t))
-counted-known g t named n w h = (w .known .known n h, (omega (arith, w .known .few), h))
+pub counted-known : (g t named : List ℕ) (n end : ℕ) → CountedTo g t named n end → n < end → T (knownWord g t n)
+counted-known g t named n end w h = w .known .known n (omega (arith, w .endIs))
 
 -- verdicts that are the same one by one are the same in a row
 each-alike : (n : ℕ) (f h : ℕ → Verdict) → ((k : ℕ) → k < n → f k ≡ h k) → each n f ≡ each n h
@@ -246,13 +251,13 @@ unfolding each
 each-alike zero f h e = refl
 each-alike (suc n) f h e = ap₂ (λ (v w : Verdict). v then w) (each-alike n f h (λ k l. e k (omega arith))) (e n (omega arith))
 
-once-same : (g t named : List ℕ) (n : ℕ) → n < 1024 → Names g t (nodes t) named → namedOnce named n ≡ onceChild g t n
+once-same : (g t named : List ℕ) (n : ℕ) → n < mostNodes → Names g t (nodes t) named → namedOnce named n ≡ onceChild g t n
 unfolding namedOnce onceChild
 once-same g t named zero l w = refl
 once-same g t named (suc n) l w = ap (λ (x : ℕ). eqb x 1) (w .counts (suc n) l)
 
 -- the counts say what 01 asks at every node
-pub names-same : (g t named : List ℕ) → nodes t ≤ 1024 → Names g t (nodes t) named
+pub names-same : (g t named : List ℕ) → nodes t ≤ mostNodes → Names g t (nodes t) named
     → each (nodes t) (λ n. namedFault named n) ≡ each (nodes t) (λ n. unless (onceChild g t n) (NotOneParent n))
 unfolding namedFault
 names-same g t named few w =

@@ -25,12 +25,12 @@ use Rattle.grammar.proofs.RuleStarts.{rule-step, rules-rise}
 use Rattle.access.specs.Offsets.{offsetsFor}
 use Rattle.access.specs.ByPlace.{symbolFrom}
 use Rattle.access.proofs.Accessors.{offset-of, symbol-at-rule}
-use Rattle.trees.specs.Tree.{nodes, ruleOf, appliesRule, child, usedSlots, symbolAtNode, terminalMark}
+use Rattle.trees.specs.Tree.{mostNodes, nodes, ruleOf, appliesRule, child, usedSlots, symbolAtNode, terminalMark}
 use Rattle.trees.specs.Checking.{sizeFits, knownWord, slotFits, slotsFit, nodeFault, childrenFit}
 use Rattle.checking.specs.Walk.{Ready, Known, UsedSlot, AllSlots, childrenFault, slotTest, slotTestsTo, childTest, childTestsTo}
 
 -- 12
-pub size-all : (t : List ℕ) → length t % 8 ≡ 0 → 1 ≤ length t / 8 → leb (length t / 8) 1024 ≡ sizeFits t
+pub size-all : (t : List ℕ) → length t % 8 ≡ 0 → 1 ≤ length t / 8 → leb (length t / 8) mostNodes ≡ sizeFits t
 unfolding sizeFits
 size-all t e h = sym (and-passed _ _ (eq-T (length t % 8) 0 e) ∙ and-passed _ _ (le→leb 1 (length t / 8) h))
 
@@ -51,47 +51,38 @@ module _ (g : List ℕ) (good : readTable g ≡ Good) where
   unfolding ruleAt
   symbol-room x h = omega (arith, formed .ends, rules-rise g 0 (rules g) (omega arith))
 
-  pub start-room : 2 < length g
-  start-room = omega (arith, symbol-room 0 (formed .someSymbols))
-
-  pub rules-room : 1 < length g
-  rules-room = omega (arith, start-room)
-
-  pub symbols-room : 0 < length g
-  symbols-room = omega (arith, start-room)
-
   pub rule-room : (r : ℕ) → r < rules g → ruleAt g r + 2 + lengthAt g (ruleAt g r) < length g
   unfolding rightLength
   rule-room r h = omega (arith, formed .ends, rule-step g r, rules-rise g (suc r) (rules g) h)
 
 -- 13
-pub known-rule : (g t : List ℕ) (n r m : ℕ) → r ≡ getD t (8 * n) 0 → r < 32768 → m ≡ getD g 1 0 → ltb r m ≡ knownWord g t n
+pub known-rule : (g t : List ℕ) (n r m : ℕ) → r ≡ getD t (8 * n) 0 → r < terminalMark → m ≡ getD g 1 0 → ltb r m ≡ knownWord g t n
 unfolding knownWord
 known-rule g t n r m e h f =
-    ap₂ ltb e f ∙ sym (chosen (appliesRule t n) _ _ (lt→ltb (ruleOf t n) terminalMark (subst (λ (x : ℕ). x < 32768) e h)))
+    ap₂ ltb e f ∙ sym (chosen (appliesRule t n) _ _ (lt→ltb (ruleOf t n) terminalMark (subst (λ (x : ℕ). x < terminalMark) e h)))
 
-pub known-terminal : (g t : List ℕ) (n r m : ℕ) (u : Bool) → r ≡ getD t (8 * n) 0 → 32768 ≤ r → m ≡ getD g 0 0 → r - 32768 < m
-    → u ≡ nonterminal g (r - 32768) → not u ≡ knownWord g t n
+pub known-terminal : (g t : List ℕ) (n r m : ℕ) (u : Bool) → r ≡ getD t (8 * n) 0 → terminalMark ≤ r → m ≡ getD g 0 0 → r - terminalMark < m
+    → u ≡ nonterminal g (r - terminalMark) → not u ≡ knownWord g t n
 unfolding knownWord
 known-terminal g t n r m u e h f l q =
     ap not q
-    ∙ (ap (λ (x : ℕ). not (nonterminal g (x - 32768))) e
-    ∙ (sym (and-passed (ltb (ruleOf t n - 32768) (symbols g)) _ (lt→ltb _ _ (subst (λ (x : ℕ). ruleOf t n - 32768 < x) f (subst (λ (x : ℕ). x - 32768 < m) e l))))
-    ∙ sym (passed-over (appliesRule t n) _ _ (false-T _ (le-ltb (ruleOf t n) 32768 (subst (λ (x : ℕ). 32768 ≤ x) e h))))))
+    ∙ (ap (λ (x : ℕ). not (nonterminal g (x - terminalMark))) e
+    ∙ (sym (and-passed (ltb (ruleOf t n - terminalMark) (symbols g)) _ (lt→ltb _ _ (subst (λ (x : ℕ). ruleOf t n - terminalMark < x) f (subst (λ (x : ℕ). x - terminalMark < m) e l))))
+    ∙ sym (passed-over (appliesRule t n) _ _ (false-T _ (le-ltb (ruleOf t n) terminalMark (subst (λ (x : ℕ). terminalMark ≤ x) e h))))))
 
-pub known-nothing : (g t : List ℕ) (n r m : ℕ) → r ≡ getD t (8 * n) 0 → 32768 ≤ r → m ≡ getD g 0 0 → m ≤ r - 32768 → false ≡ knownWord g t n
+pub known-nothing : (g t : List ℕ) (n r m : ℕ) → r ≡ getD t (8 * n) 0 → terminalMark ≤ r → m ≡ getD g 0 0 → m ≤ r - terminalMark → false ≡ knownWord g t n
 unfolding knownWord
 known-nothing g t n r m e h f l =
-    sym (passed-over (appliesRule t n) _ _ (false-T _ (le-ltb (ruleOf t n) 32768 (subst (λ (x : ℕ). 32768 ≤ x) e h)))
-    ∙ and-failed _ _ (false-T _ (le-ltb _ _ (subst (λ (x : ℕ). x ≤ ruleOf t n - 32768) f (subst (λ (x : ℕ). m ≤ x - 32768) e l)))))
+    sym (passed-over (appliesRule t n) _ _ (false-T _ (le-ltb (ruleOf t n) terminalMark (subst (λ (x : ℕ). terminalMark ≤ x) e h)))
+    ∙ and-failed _ _ (false-T _ (le-ltb _ _ (subst (λ (x : ℕ). x ≤ ruleOf t n - terminalMark) f (subst (λ (x : ℕ). m ≤ x - terminalMark) e l)))))
 
 -- the slots that a known node uses
-pub known-below : (g t : List ℕ) (n r : ℕ) → T (knownWord g t n) → r ≡ getD t (8 * n) 0 → r < 32768 → r < rules g
+pub known-below : (g t : List ℕ) (n r : ℕ) → T (knownWord g t n) → r ≡ getD t (8 * n) 0 → r < terminalMark → r < rules g
 unfolding knownWord
 known-below g t n r k e h =
     subst⁻¹ (λ (x : ℕ). x < rules g) e
     (ltb→lt (ruleOf t n) (rules g)
-    (subst (λ (b : Bool). T b) (chosen (appliesRule t n) _ _ (lt→ltb (ruleOf t n) 32768 (subst (λ (x : ℕ). x < 32768) e h))) k))
+    (subst (λ (b : Bool). T b) (chosen (appliesRule t n) _ _ (lt→ltb (ruleOf t n) terminalMark (subst (λ (x : ℕ). x < terminalMark) e h))) k))
 
 pub offset-is : (g offsets : List ℕ) (r : ℕ) → Ready g offsets → r < rules g → getD offsets r 0 ≡ ruleAt g r
 offset-is g offsets r w h =
@@ -111,20 +102,20 @@ right-length-is : (g offsets : List ℕ) (r p v : ℕ) → Ready g offsets → r
 unfolding rightLength
 right-length-is g offsets r p v w l s f = f ∙ ap (lengthAt g) (s ∙ offset-is g offsets r w l)
 
-pub used-rule : (g offsets t : List ℕ) (n r p v : ℕ) → Ready g offsets → r ≡ getD t (8 * n) 0 → r < 32768 → r < rules g
+pub used-rule : (g offsets t : List ℕ) (n r p v : ℕ) → Ready g offsets → r ≡ getD t (8 * n) 0 → r < terminalMark → r < rules g
     → p ≡ getD offsets r 0 → v ≡ lengthAt g p → v ≡ usedSlots g t n
 unfolding usedSlots
 used-rule g offsets t n r p v w e h l s f =
     right-length-is g offsets r p v w l s f
-    ∙ (ap (rightLength g) e ∙ sym (chosen (appliesRule t n) _ 0 (lt→ltb (ruleOf t n) 32768 (subst (λ (x : ℕ). x < 32768) e h))))
+    ∙ (ap (rightLength g) e ∙ sym (chosen (appliesRule t n) _ 0 (lt→ltb (ruleOf t n) terminalMark (subst (λ (x : ℕ). x < terminalMark) e h))))
 
 pub right-seven : (g offsets : List ℕ) (r p v : ℕ) → Ready g offsets → r < rules g → p ≡ getD offsets r 0 → v ≡ lengthAt g p → v ≤ 7
 right-seven g offsets r p v w l s f =
     omega (arith, right-length-is g offsets r p v w l s f, accepted g (w .good) .rule r l .lengthFits)
 
-pub used-none : (g t : List ℕ) (n r : ℕ) → r ≡ getD t (8 * n) 0 → 32768 ≤ r → 0 ≡ usedSlots g t n
+pub used-none : (g t : List ℕ) (n r : ℕ) → r ≡ getD t (8 * n) 0 → terminalMark ≤ r → 0 ≡ usedSlots g t n
 unfolding usedSlots
-used-none g t n r e h = sym (passed-over (appliesRule t n) _ 0 (false-T _ (le-ltb (ruleOf t n) 32768 (subst (λ (x : ℕ). 32768 ≤ x) e h))))
+used-none g t n r e h = sym (passed-over (appliesRule t n) _ 0 (false-T _ (le-ltb (ruleOf t n) terminalMark (subst (λ (x : ℕ). terminalMark ≤ x) e h))))
 
 -- 14
 pub slot-inside : (t : List ℕ) (n i used c : ℕ) → c ≡ getD t (8 * n + i) 0 → i ≤ used → n < c → ltb c (length t / 8) ≡ slotTest t n i used
@@ -204,11 +195,11 @@ pub children-end : (g t : List ℕ) (n used i : ℕ) → childTestsTo g t n i �
 children-end g t n used i e h l = let q : i ≡ used = omega arith in sym (subst (λ (x : ℕ). childTestsTo g t n x ≡ true) q e)
 
 -- the rule of a node that is known
-pub below-of-known : (g t : List ℕ) (n r : ℕ) → Known g t → n < nodes t → r ≡ getD t (8 * n) 0 → r < 32768 → r < rules g
+pub below-of-known : (g t : List ℕ) (n r : ℕ) → Known g t → n < nodes t → r ≡ getD t (8 * n) 0 → r < terminalMark → r < rules g
 below-of-known g t n r k h e l = known-below g t n r (k .known n h) e l
 
 -- 16 at a node
-pub rule-slots : (g offsets t : List ℕ) (n r p v : ℕ) → Ready g offsets → Known g t → n < nodes t → r ≡ getD t (8 * n) 0 → r < 32768
+pub rule-slots : (g offsets t : List ℕ) (n r p v : ℕ) → Ready g offsets → Known g t → n < nodes t → r ≡ getD t (8 * n) 0 → r < terminalMark
     → p ≡ getD offsets r 0 → v ≡ lengthAt g p → AllSlots g t n p v
 rule-slots g offsets t n r p v w k h e l f q =
     let m : r < rules g = below-of-known g t n r k h e l in
@@ -222,11 +213,13 @@ rule-slots g offsets t n r p v w k h e l f q =
           omega (arith, rule-room g (w .good) r m, s, q ∙ ap (lengthAt g) s);
     }
 
-pub children-rule : (g t : List ℕ) (n p v : ℕ) (u : Bool) → AllSlots g t n p v → u ≡ childTestsTo g t n v → u ≡ childrenFit g t n
+pub children-rule : (g offsets t : List ℕ) (n r p v : ℕ) (u : Bool) → Ready g offsets → Known g t → n < nodes t → r ≡ getD t (8 * n) 0 → r < terminalMark
+    → p ≡ getD offsets r 0 → v ≡ lengthAt g p → u ≡ childTestsTo g t n v → u ≡ childrenFit g t n
 unfolding childrenFit childTestsTo childTest
-children-rule g t n p v u w e = e ∙ ap (λ (x : ℕ). childTestsTo g t n x) (w .usedIs)
+children-rule g offsets t n r p v u w k h e l f q i =
+    i ∙ ap (λ (x : ℕ). childTestsTo g t n x) (rule-slots g offsets t n r p v w k h e l f q .usedIs)
 
-pub children-terminal : (g t : List ℕ) (n r : ℕ) → r ≡ getD t (8 * n) 0 → 32768 ≤ r → true ≡ childrenFit g t n
+pub children-terminal : (g t : List ℕ) (n r : ℕ) → r ≡ getD t (8 * n) 0 → terminalMark ≤ r → true ≡ childrenFit g t n
 unfolding childrenFit all
 children-terminal g t n r e h = ap (λ (x : ℕ). all x (λ i. eqb (symbolAtNode g t (child t n (suc i))) (symbolOf g (ruleOf t n) (suc i)))) (used-none g t n r e h)
 
@@ -265,22 +258,22 @@ pub known-of : (g t : List ℕ) (n : ℕ) (u : Bool) → u ≡ knownWord g t n �
 known-of g t n u e f = true-T _ (sym e ∙ f)
 
 -- the symbol of a known node
-pub symbol-rule : (g offsets t : List ℕ) (n r p v : ℕ) → Ready g offsets → r ≡ getD t (8 * n) 0 → r < 32768 → r < rules g
+pub symbol-rule : (g offsets t : List ℕ) (n r p v : ℕ) → Ready g offsets → r ≡ getD t (8 * n) 0 → r < terminalMark → r < rules g
     → p ≡ getD offsets r 0 → v ≡ getD g p 0 → v ≡ symbolAtNode g t n
 unfolding symbolAtNode symbolOf
 symbol-rule g offsets t n r p v w e h l s f =
     f
     ∙ (ap (word g) (s ∙ offset-is g offsets r w l)
-    ∙ (ap (λ (x : ℕ). symbolOf g x 0) e ∙ sym (chosen (appliesRule t n) _ _ (lt→ltb (ruleOf t n) 32768 (subst (λ (x : ℕ). x < 32768) e h)))))
+    ∙ (ap (λ (x : ℕ). symbolOf g x 0) e ∙ sym (chosen (appliesRule t n) _ _ (lt→ltb (ruleOf t n) terminalMark (subst (λ (x : ℕ). x < terminalMark) e h)))))
 
-pub symbol-terminal : (g t : List ℕ) (n r : ℕ) → r ≡ getD t (8 * n) 0 → 32768 ≤ r → r - 32768 ≡ symbolAtNode g t n
+pub symbol-terminal : (g t : List ℕ) (n r : ℕ) → r ≡ getD t (8 * n) 0 → terminalMark ≤ r → r - terminalMark ≡ symbolAtNode g t n
 unfolding symbolAtNode
 symbol-terminal g t n r e h =
-    ap (λ (x : ℕ). x - 32768) e ∙ sym (passed-over (appliesRule t n) _ _ (false-T _ (le-ltb (ruleOf t n) 32768 (subst (λ (x : ℕ). 32768 ≤ x) e h))))
+    ap (λ (x : ℕ). x - terminalMark) e ∙ sym (passed-over (appliesRule t n) _ _ (false-T _ (le-ltb (ruleOf t n) terminalMark (subst (λ (x : ℕ). terminalMark ≤ x) e h))))
 
 -- 16 at one slot
 pub child-known : (g t : List ℕ) (n p i c : ℕ) → Known g t → UsedSlot g t n p i → c ≡ getD t (8 * n + i) 0
-    → T (knownWord g t c) × ((c < 1024) × (c < nodes t))
+    → T (knownWord g t c) × ((c < mostNodes) × (c < nodes t))
 child-known g t n p i c k u e =
     let l : c < nodes t = subst⁻¹ (λ (x : ℕ). x < nodes t) e (k .inside n i (u .node) (u .first) (u .last)) in
     (k .known c l, (omega (arith, k .few), l))

@@ -26,7 +26,7 @@ use Rattle.grammar.specs.Table.{start, rules, rightLength}
 use Rattle.grammar.proofs.AcceptedTable.{accepted}
 use Rattle.grammar.specs.Verdicts.{_then_, unless, each}
 use Rattle.grammar.proofs.VerdictLaws.{then-first, then-second, unless-passes, each-at}
-use Rattle.trees.specs.Tree.{mostNodes, nodes, ruleOf, appliesRule, child, usedSlots, symbolAtNode, valueWords}
+use Rattle.trees.specs.Tree.{terminalMark, mostNodes, nodes, ruleOf, appliesRule, child, usedSlots, symbolAtNode, valueWords}
 use Rattle.trees.specs.Checking.{
   sizeFits,
   knownWord,
@@ -60,7 +60,7 @@ unfolding unless
 unless-not b n e = ap (λ (x : Bool). unless x n) e
 
 -- what 12 shows
-pub size-shows : (t : List ℕ) (u : Bool) → u ≡ sizeFits t → u ≡ true → (1 ≤ nodes t) × (nodes t ≤ 1024)
+pub size-shows : (t : List ℕ) (u : Bool) → u ≡ sizeFits t → u ≡ true → (1 ≤ nodes t) × (nodes t ≤ mostNodes)
 unfolding sizeFits
 size-shows t u e f =
     let t₁ = and-right _ _ (true-T (sizeFits t) (sym e ∙ f)) in
@@ -69,7 +69,7 @@ size-shows t u e f =
 pub some-node : (t : List ℕ) (u : Bool) → u ≡ sizeFits t → u ≡ true → 1 ≤ nodes t
 some-node t u e f = size-shows t u e f .0
 
-pub few-nodes : (t : List ℕ) (u : Bool) → u ≡ sizeFits t → u ≡ true → nodes t ≤ 1024
+pub few-nodes : (t : List ℕ) (u : Bool) → u ≡ sizeFits t → u ≡ true → nodes t ≤ mostNodes
 few-nodes t u e f = size-shows t u e f .1
 
 -- a known node uses at most seven slots
@@ -78,12 +78,12 @@ unfolding usedSlots
 used-seven g offsets t n w k =
     ⊎-elim
     (λ a.
-    let b : ruleOf t n < rules g = known-below g t n (ruleOf t n) k refl (ltb→lt (ruleOf t n) 32768 a) in
+    let b : ruleOf t n < rules g = known-below g t n (ruleOf t n) k refl (ltb→lt (ruleOf t n) terminalMark a) in
     subst⁻¹ (λ (x : ℕ). x ≤ 7) (chosen (appliesRule t n) (rightLength g (ruleOf t n)) 0 a) (accepted g (w .good) .rule (ruleOf t n) b .lengthFits))
     (λ a. subst⁻¹ (λ (x : ℕ). x ≤ 7) (passed-over (appliesRule t n) (rightLength g (ruleOf t n)) 0 a) (omega arith)) (tested (appliesRule t n))
 
 -- what 13 and 14 show
-pub known-all : (g offsets t : List ℕ) (k : ℕ) (v : Verdict) → Ready g offsets → nodes t ≤ 1024 → k ≡ nodes t → v ≡ each k (λ n. nodeFault g t n) → v ≡ Good → Known g t
+pub known-all : (g offsets t : List ℕ) (k : ℕ) (v : Verdict) → Ready g offsets → nodes t ≤ mostNodes → k ≡ nodes t → v ≡ each k (λ n. nodeFault g t n) → v ≡ Good → Known g t
 unfolding nodeFault slotsFit slotFits
 known-all g offsets t k v w few e f h =
     record {
@@ -183,27 +183,27 @@ past-16 : (g t : List ℕ) (v : ℕ) (w : Verdict) → Passed15 g t v → w ≡ 
 past-16 g t v w p h q =
     p .rest ∙ good-then (each (nodes t) (λ n. unless (childrenFit g t n) (ChildDiffers n))) (from-17 g t v) (sym (children-same g t) ∙ (sym h ∙ q))
 
-pub answer-17 : (g t named : List ℕ) (v : ℕ) (w z : Verdict) (n : Refusal) → nodes t ≤ 1024 → Passed15 g t v
+pub answer-17 : (g t named : List ℕ) (v : ℕ) (w z : Verdict) (n : Refusal) → nodes t ≤ mostNodes → Passed15 g t v
     → w ≡ each (nodes t) (λ n. childrenFault g t n) → w ≡ Good → Names g t (nodes t) named → z ≡ each (nodes t) (λ n. namedFault named n)
     → z ≡ Refused n → z ≡ checkTree g t v
 answer-17 g t named v w z n few p h q m e f =
     f ∙ sym (past-16 g t v w p h q
     ∙ bad-then (each (nodes t) (λ n. unless (onceChild g t n) (NotOneParent n))) (from-18 t v) n (sym (names-same g t named few m) ∙ (sym e ∙ f)))
 
-past-17 : (g t named : List ℕ) (v : ℕ) (w z : Verdict) → nodes t ≤ 1024 → Passed15 g t v
+past-17 : (g t named : List ℕ) (v : ℕ) (w z : Verdict) → nodes t ≤ mostNodes → Passed15 g t v
     → w ≡ each (nodes t) (λ n. childrenFault g t n) → w ≡ Good → Names g t (nodes t) named → z ≡ each (nodes t) (λ n. namedFault named n)
     → z ≡ Good → checkTree g t v ≡ from-18 t v
 past-17 g t named v w z few p h q m e f =
     past-16 g t v w p h q
     ∙ good-then (each (nodes t) (λ n. unless (onceChild g t n) (NotOneParent n))) (from-18 t v) (sym (names-same g t named few m) ∙ (sym e ∙ f))
 
-pub answer-18 : (g t named : List ℕ) (v : ℕ) (w z : Verdict) → nodes t ≤ 1024 → Passed15 g t v
+pub answer-18 : (g t named : List ℕ) (v : ℕ) (w z : Verdict) → nodes t ≤ mostNodes → Passed15 g t v
     → w ≡ each (nodes t) (λ n. childrenFault g t n) → w ≡ Good → Names g t (nodes t) named → z ≡ each (nodes t) (λ n. namedFault named n)
     → z ≡ Good → v < 8 * nodes t → Refused ValuesTooShort ≡ checkTree g t v
 answer-18 g t named v w z few p h q m e f l =
     sym (past-17 g t named v w z few p h q m e f ∙ unless-not _ _ (lt-leb (valueWords t) v l))
 
-pub answer-good : (g t named : List ℕ) (v : ℕ) (w z : Verdict) → nodes t ≤ 1024 → Passed15 g t v
+pub answer-good : (g t named : List ℕ) (v : ℕ) (w z : Verdict) → nodes t ≤ mostNodes → Passed15 g t v
     → w ≡ each (nodes t) (λ n. childrenFault g t n) → w ≡ Good → Names g t (nodes t) named → z ≡ each (nodes t) (λ n. namedFault named n)
     → z ≡ Good → 8 * nodes t ≤ v → Good ≡ checkTree g t v
 answer-good g t named v w z few p h q m e f l =

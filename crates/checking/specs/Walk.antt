@@ -15,7 +15,7 @@ use Rattle.grammar.specs.Verdicts.{unless}
 use Rattle.grammar.specs.Reading.{readTable}
 use Rattle.access.specs.Offsets.{offsetsFor}
 use Rattle.grammar.specs.Table.{ruleAt, symbolOf}
-use Rattle.trees.specs.Tree.{nodes, ruleOf, child, usedSlots, symbolAtNode}
+use Rattle.trees.specs.Tree.{mostNodes, nodes, ruleOf, child, usedSlots, symbolAtNode}
 use Rattle.trees.specs.Checking.{knownWord, childrenFit, namesNode}
 
 -- the grammar was accepted, and the offsets are those of its rules
@@ -36,7 +36,7 @@ slotTests t n used = slotTestsTo t n used 7
 
 -- the first walk passed: every node is known and its used slots name nodes
 pub record Known (g t : List ℕ) : Type 0 where
-  pub few : nodes t ≤ 1024
+  pub few : nodes t ≤ mostNodes
   pub known : (n : ℕ) → n < nodes t → T (knownWord g t n)
   pub inside : (n i : ℕ) → n < nodes t → 1 ≤ i → i ≤ usedSlots g t n → child t n i < nodes t
 
@@ -75,7 +75,7 @@ slotNames t n m k = count k (λ i. eqb (child t n (suc i)) m)
 
 -- the counts have room for the slots of node n, whose used slots name nodes that are counted
 pub record Naming (named t : List ℕ) (n used : ℕ) : Type 0 where
-  pub node : n < 1024
+  pub node : n < mostNodes
   pub there : n < nodes t
   pub short : used ≤ 7
   pub low : (m : ℕ) → word named m ≤ 8 * n
@@ -88,8 +88,8 @@ pub record NamedMore (before after t : List ℕ) (n used : ℕ) : Type 0 where
 
 -- the counts after the first n nodes: how many words of the tree up to there are used slots that name node m
 pub record Names (g t : List ℕ) (n : ℕ) (named : List ℕ) : Type 0 where
-  pub size : length named ≡ 1024
-  pub counts : (m : ℕ) → m < 1024 → word named m ≡ count (8 * n) (λ k. namesNode g t m k)
+  pub size : length named ≡ mostNodes
+  pub counts : (m : ℕ) → m < mostNodes → word named m ≡ count (8 * n) (λ k. namesNode g t m k)
 
 -- 17 at node n, from the counts
 unfoldable pub namedOnce : List ℕ → ℕ → Bool

@@ -1,3 +1,5 @@
 pub mod LocatedLaws
 pub mod StateLaws
+pub mod HeldLaws
+pub mod TurnLaws
 pub mod RunLaws

@@ -1,7 +1,7 @@
 -- The arrays of a run: what is written above the depth is not on the stack, a push and a pop move one node between the top and the arrays, and the place
 -- of a node that is not on the stack can be written before or after the marks are. Assumes nothing.
 use Prim.Native.Nat.{ℕ, zero, suc, _+_, _^_, _≤_, _<_}
-use mathlib.Core.Path.{_≡_, refl, sym, _∙_, ap, ap₂}
+use mathlib.Core.Path.{_≡_, refl, sym, _∙_, ap, ap₂, subst⁻¹}
 use mathlib.Core.Logic.{⊎-elim}
 use mathlib.Core.List.{List, _∷_}
 use native.Mathlib.Omega.{arith}
@@ -14,13 +14,13 @@ use mir.Syntax.{w32}
 use mir.Val.{toZ, ofZ}
 use Rattle.basics.specs.Lists.{word}
 use Rattle.basics.proofs.TestLaws.{same-or-not}
-use Rattle.trees.specs.Tree.{cell}
+use Rattle.trees.specs.Tree.{ruleOf, child, cell}
 use Rattle.evaluating.specs.FunctionPlaces.{valueFrom}
 use Rattle.evaluating.proofs.PlaceLaws.{kept}
 use Rattle.runs.specs.Automaton.{Machine}
 use Rattle.runs.specs.Balance.{times}
 use Rattle.runs.proofs.Steps.{times-same, times-other}
-use Rattle.executing.specs.State.{stackOf, relative, placesOf, written}
+use Rattle.executing.specs.State.{stackOf, relative, placesOf, written, Placed, Standing, Visited}
 
 -- machines are equal by their parts
 pub same-machine : {s s′ q q′ : List ℕ} {v v′ : List ℤ} → s ≡ s′ → q ≡ q′ → v ≡ v′
@@ -100,3 +100,17 @@ pub compute-writes : (g t : List ℕ) (values : List ℤ) (n o f c : ℕ) (v : �
     → set values c (toZ w32 (ofZ w32 v)) ≡ written g t values n o f
 unfolding written
 compute-writes g t values n o f c v e l d = ap₂ (λ (x : ℕ) (y : ℤ). set values x y) d (kept l e)
+
+-- ---- the node on top after a visit
+
+pub placed-child : (t : List ℕ) (n i c : ℕ) → Placed t (child t n i) → c ≡ child t n i → Placed t c
+placed-child t n i c h e = subst⁻¹ (Placed t) e h
+
+pub visited : (t places : List ℕ) (n i c x node rule at : ℕ) → c ≡ child t n i → x ≡ word places c → Standing t c x node rule at
+    → Visited t places n i node rule at
+visited t places n i c x node rule at e f s =
+    record {
+      nodeIs = s .nodeIs ∙ e;
+      ruleIs = s .ruleIs ∙ ap (ruleOf t) (sym (s .nodeIs));
+      atIs = omega (arith, s .atIs, f, ap (word places) (s .nodeIs));
+    }

@@ -1,10 +1,8 @@
 // The sets of each nonterminal, set after set from the end (000, section 7, step 3), with attributes as bits.
 use grammar::SET_WORDS;
 ghost use mathlib.Core.Path.{_≡_};
-ghost use mathlib.Core.Bool.{cond};
 ghost use Prim.Native.Nat.{_+_, _*_, _≤_, _<_};
 ghost use lib.ListN.{length};
-ghost use Rattle.bits.specs.Bit as bit;
 ghost use Rattle.grammar.specs.declared.Verdict.the-variants.{Good};
 ghost use Rattle.grammar.specs.Limits as limits;
 ghost use Rattle.grammar.specs.Reading.{readTable};

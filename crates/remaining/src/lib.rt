@@ -1,7 +1,6 @@
 // What is left of one rule's visit-sequence (000, section 6.3), whoever orders its actions: what is left before the first action, which
 // visit is ready, and what is left after an action. Three sets hold the actions, a fourth the occurrences that wait to be made available.
 ghost use mathlib.Core.Path.{_≡_};
-ghost use mathlib.Core.Bool.{cond};
 ghost use Prim.Native.Nat.{_+_, _*_, _-_, _/_, _%_, _≤_, _<_, max};
 ghost use Rattle.bits.specs.Bit as bit;
 ghost use Rattle.grammar.specs.Table as table;

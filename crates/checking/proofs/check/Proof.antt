@@ -1,6 +1,5 @@
 -- `checking::check` meets its contract: each test that fails is the first that does, since those before it passed. Assumes nothing.
 use Rattle.checking.proofs.WholeCheckLaws.{some-node, few-nodes, root-known, known-all, passed-15, answer-12, answer-13, answer-15, answer-16, answer-17, answer-18, answer-good}
-use Rattle.checking.proofs.NodeTestLaws.{start-room}
 use borrow.Author.Tests.{not-true, not-false}
 use borrow.Author.Needs.{needs}
 use Rattle.checking.proofs.check.Statement.{statement}
@@ -27,8 +26,8 @@ returns-2 c = search (answer-13, not-false)
 symbol-at-node-requires : tie.Need-symbol-at-node-requires
 symbol-at-node-requires c κs = (search needs, (search (root-known, not-false), (search needs, search (some-node, not-false))))
 
-word-requires : tie.Need-word-requires
-word-requires c κs = search start-room
+start-requires : tie.Need-start-requires
+start-requires c κs = search needs
 
 returns-3 : tie.Need-returns-3
 returns-3 c = search (answer-15, not-false)
@@ -80,7 +79,7 @@ check-spec =
     enum-told-2
     returns-2
     symbol-at-node-requires
-    word-requires
+    start-requires
     returns-3
     children-fault-requires
     enum-told-3

@@ -3,7 +3,6 @@
 -- Assumes nothing.
 use borrow.Author.Needs.{needs}
 use Prim.Native.Nat.{_-_}
-use native.Mathlib.Omega.{arith}
 use Rattle.checking.proofs.NameLaws.{NamedTo, named-start, named-inside, named-fits, named-turn, named-finish}
 use Rattle.checking.proofs.name_children.Statement.{statement}
 use Rattle.checking.proofs.name_children.Tie as tie
@@ -17,17 +16,17 @@ abbrev μ-loop : tie.MeasureT-loop
 loop-holds : tie.Need-loop-holds Inv-loop μ-loop
 loop-holds c = search named-start
 
-mul-word : tie.Need-mul-word Inv-loop μ-loop
-mul-word c = search needs
+mul-known : tie.Need-mul-known Inv-loop μ-loop
+mul-known c = search needs
 
-add-word : tie.Need-add-word Inv-loop μ-loop
-add-word c = search needs
+add-known : tie.Need-add-known Inv-loop μ-loop
+add-known c = search needs
 
-add-word-2 : tie.Need-add-word-2 Inv-loop μ-loop
-add-word-2 c = search needs
+add-known-2 : tie.Need-add-known-2 Inv-loop μ-loop
+add-known-2 c = search needs
 
-word-requires : tie.Need-word-requires Inv-loop μ-loop
-word-requires c κs = search needs
+known-requires : tie.Need-known-requires Inv-loop μ-loop
+known-requires c κs = search needs
 
 mul-named : tie.Need-mul-named Inv-loop μ-loop
 mul-named c = search needs
@@ -36,7 +35,7 @@ slice-read-named : tie.Need-slice-read-named Inv-loop μ-loop
 slice-read-named c = search (named-inside, needs)
 
 add-named : tie.Need-add-named Inv-loop μ-loop
-add-named c = record { fits = named-fits _ _ _ _ _ _ _ (c .before .before .before .loop .inv) (omega arith) (c .before .word .ensures .0) }
+add-named c = record { fits = search (named-fits, needs) }
 
 mul-named-2 : tie.Need-mul-named-2 Inv-loop μ-loop
 mul-named-2 c = search needs
@@ -66,10 +65,10 @@ name-children-spec =
     Inv-loop
     μ-loop
     loop-holds
-    mul-word
-    add-word
-    add-word-2
-    word-requires
+    mul-known
+    add-known
+    add-known-2
+    known-requires
     mul-named
     slice-read-named
     add-named

@@ -1,4 +1,4 @@
--- `checking::slots_match` meets its contract: the invariant says that the slots so far match; the first that does not settles the test of all.
+-- `checking::nodes::slots_match` meets its contract: the invariant says that the slots so far match; the first that does not settles the test of all.
 -- Assumes nothing.
 use borrow.Author.Needs.{needs}
 use Prim.Native.Nat.{_≤_, _-_}
@@ -8,8 +8,8 @@ use native.Mathlib.Omega.{arith}
 use borrow.Author.Tests.{not-true, not-false}
 use Rattle.checking.specs.Walk.{childTestsTo}
 use Rattle.checking.proofs.NodeTestLaws.{used-slot, children-none, children-more, children-stop, children-end}
-use Rattle.checking.proofs.slots_match.Statement.{statement}
-use Rattle.checking.proofs.slots_match.Tie as tie
+use Rattle.checking.proofs.nodes.slots_match.Statement.{statement}
+use Rattle.checking.proofs.nodes.slots_match.Tie as tie
 
 abbrev Inv-loop : tie.InvT-loop
 Inv-loop words offsets t n p used i₀ i = (i ≤ used) × (childTestsTo words t n i ≡ true)

@@ -1,9 +1,9 @@
--- `checking::node_fault` meets its contract: 13 is tested first, and only a node whose word is known has slots to count for 14.
+-- `checking::nodes::node_fault` meets its contract: 13 is tested first, and only a node whose word is known has slots to count for 14.
 -- Assumes nothing.
 use Rattle.checking.proofs.NodeTestLaws.{known-of, node-good, node-child, node-unknown}
 use borrow.Author.Needs.{needs}
-use Rattle.checking.proofs.node_fault.Statement.{statement}
-use Rattle.checking.proofs.node_fault.Tie as tie
+use Rattle.checking.proofs.nodes.node_fault.Statement.{statement}
+use Rattle.checking.proofs.nodes.node_fault.Tie as tie
 
 known-word-requires : tie.Need-known-word-requires
 known-word-requires c κs = search needs

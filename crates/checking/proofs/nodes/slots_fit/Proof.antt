@@ -1,4 +1,4 @@
--- `checking::slots_fit` meets its contract: the invariant says that the slots so far fit; the first that does not settles the test of all seven.
+-- `checking::nodes::slots_fit` meets its contract: the invariant says that the slots so far fit; the first that does not settles the test of all seven.
 -- Assumes nothing.
 use native.Mathlib.Omega.{arith}
 use borrow.Author.Tests.{not-true, not-false}
@@ -8,8 +8,8 @@ use mathlib.Core.Path.{_≡_}
 use mathlib.Core.Bool.{true}
 use Rattle.checking.specs.Walk.{slotTestsTo}
 use Rattle.checking.proofs.NodeTestLaws.{slots-none, slots-more, slots-stop, slots-end}
-use Rattle.checking.proofs.slots_fit.Statement.{statement}
-use Rattle.checking.proofs.slots_fit.Tie as tie
+use Rattle.checking.proofs.nodes.slots_fit.Statement.{statement}
+use Rattle.checking.proofs.nodes.slots_fit.Tie as tie
 
 abbrev Inv-loop : tie.InvT-loop
 Inv-loop t n used i₀ i = (i ≤ 7) × (slotTestsTo t n used i ≡ true)
