@@ -2,7 +2,7 @@
 -- Assumes nothing.
 use Prim.Native.Nat.{ℕ, zero, suc, _-_, _≤_, _<_, _^_}
 use native.Mathlib.Omega.{arith}
-use mathlib.Core.Path.{_≡_, sym, ap, ap₂, subst⁻¹, _∙_}
+use mathlib.Core.Path.{_≡_, refl, sym, ap, ap₂, subst⁻¹, _∙_}
 use mathlib.Core.Bool.{Bool, true, false, cond}
 use lib.Dec.{ltb}
 use lib.ListN.{getD, List·getD-eq-default}
@@ -11,8 +11,8 @@ use lib.Signed.{ltZ, mag}
 use mir.Syntax.{Width, w32, w64}
 use mir.Val.{SFits, toZ, ofZ}
 use mir.Facts.{toZ-ofZ, toZ-pos, sfits-widen}
-use Rattle.values.specs.Value.{hold, constant, exact, results, result, same}
-use Rattle.values.proofs.ValueLaws.{mag-cond, less-fits, hold-fits, hold-same, result-fits, same-true, same-false}
+use Rattle.values.specs.Value.{hold, constant, exact, results, result, same, less, servedBefore}
+use Rattle.values.proofs.ValueLaws.{mag-cond, less-fits, hold-fits, hold-same, result-fits, truth-fits, same-true, same-false, served}
 
 -- a number that fits, by another name, is read back
 pub read : {w : Width} {r z : ℤ} → r ≡ z → SFits w z → toZ w (ofZ w r) ≡ z
@@ -105,3 +105,18 @@ past k h d = omega arith
 pub no-operation : (op : ℕ) (x y z t : ℤ) → 9 ≤ op → pos 0 ≡ result op x y z t
 unfolding result exact hold
 no-operation op x y z t h = sym (ap hold (List·getD-eq-default (results x y z t) (pos 0) h))
+
+-- ---- the order of service, by the order of the priorities
+
+module _ (p s q t : ℤ) (f : SFits w32 p) (g : SFits w32 q) where
+  pub served-higher : ltZ (toZ w32 (ofZ w32 q)) (toZ w32 (ofZ w32 p)) ≡ true → pos 1 ≡ servedBefore p s q t
+  served-higher e = sym (served p s q t (tested g f e) refl)
+
+  pub served-equal : ltZ (toZ w32 (ofZ w32 q)) (toZ w32 (ofZ w32 p)) ≡ false → ofZ w32 p ≡ ofZ w32 q → SFits w32 s → SFits w32 t → {r : ℤ}
+      → r ≡ less (toZ w32 (ofZ w32 s)) (toZ w32 (ofZ w32 t)) → toZ w32 (ofZ w32 r) ≡ servedBefore p s q t
+  unfolding less
+  served-equal e d h k i =
+      read (i ∙ ap₂ less (toZ-ofZ h) (toZ-ofZ k)) (truth-fits (ltZ s t)) ∙ sym (served p s q t (tested g f e) (equal f g d))
+
+  pub served-lower : ltZ (toZ w32 (ofZ w32 q)) (toZ w32 (ofZ w32 p)) ≡ false → (ofZ w32 p ≡ ofZ w32 q → ⊥) → pos 0 ≡ servedBefore p s q t
+  served-lower e d = sym (served p s q t (tested g f e) (differ p q d))

@@ -17,7 +17,7 @@ constant-requires : tie.Need-constant-requires
 constant-requires c κs = search needs
 
 returns : tie.Need-returns
-returns c = named-constant (c .before .before .before .args .words .now) (c .before .before .before .args .f) (c .constant .ensures) (c .constant .ok)
+returns c = search named-constant
 
 pub constant-value-spec : {M : Type 1} → statement M
 constant-value-spec =

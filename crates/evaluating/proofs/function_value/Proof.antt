@@ -23,7 +23,8 @@ add-argument-value : tie.Need-add-argument-value
 add-argument-value c = search needs
 
 argument-value-requires : tie.Need-argument-value-requires
-argument-value-requires c κs = (c .before .before .before .before .pre .one) (omega arith)
+argument-value-requires c κs =
+    let entry = c .before .before .before .before in entry .pre .one (omega arith)
 
 of-two-requires : tie.Need-of-two-requires
 of-two-requires c κs = search needs
@@ -44,7 +45,7 @@ of-three-requires : tie.Need-of-three-requires
 of-three-requires c κs = search needs
 
 of-four-requires : tie.Need-of-four-requires
-of-four-requires c κs = ((c .before .before .before .before .pre), (refl, search from-eight))
+of-four-requires c κs = (search needs, (refl, search from-eight))
 
 returns : tie.Need-returns
 returns c = constant-value _ _ _ _ _ refl (omega arith) (c .constant-value .ensures) (c .constant-value .ok)

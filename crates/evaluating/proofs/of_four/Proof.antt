@@ -9,38 +9,44 @@ add-argument-value : tie.Need-add-argument-value
 add-argument-value c = search needs
 
 argument-value-requires : tie.Need-argument-value-requires
-argument-value-requires c κs = (c .before .before .pre .0 .one) (omega arith)
+argument-value-requires c κs =
+    let entry = c .before .before in entry .pre .0 .one (omega arith)
 
 add-argument-value-2 : tie.Need-add-argument-value-2
 add-argument-value-2 c = search needs
 
 argument-value-requires-2 : tie.Need-argument-value-requires-2
-argument-value-requires-2 c κs = (c .before .before .before .pre .0 .two) (omega arith)
+argument-value-requires-2 c κs =
+    let entry = c .before .before .before in entry .pre .0 .two (omega arith)
 
 add-argument-value-3 : tie.Need-add-argument-value-3
 add-argument-value-3 c = search needs
 
 argument-value-requires-3 : tie.Need-argument-value-requires-3
-argument-value-requires-3 c κs = (c .before .before .before .before .pre .0 .three) (omega arith)
+argument-value-requires-3 c κs =
+    let entry = c .before .before .before .before in entry .pre .0 .three (omega arith)
 
 add-argument-value-4 : tie.Need-add-argument-value-4
 add-argument-value-4 c = search needs
 
 argument-value-requires-4 : tie.Need-argument-value-requires-4
 argument-value-requires-4 c κs =
-    let entry = c .before .before .before .before in entry .before .pre .0 .four (omega arith)
+    let third = c .before .before in
+    let entry = third .before .before .before in entry .pre .0 .four (omega arith)
 
 result-requires : tie.Need-result-requires
 result-requires c κs = search needs
 
 returns : tie.Need-returns
 returns c =
-    let entry = c .before .before .before .before in
-    four-value _ _ _ _ _ (entry .before .before .before .pre .1 .0) (omega arith)
-    (c .before .before .before .before .argument-value .ensures) (c .before .before .before .before .argument-value .ok)
-    (c .before .before .before .argument-value2 .ensures) (c .before .before .before .argument-value2 .ok)
-    (c .before .before .argument-value3 .ensures) (c .before .before .argument-value3 .ok) (c .before .argument-value4 .ensures)
-    (c .before .argument-value4 .ok) (entry .before .before .before .pre .1 .1) (c .result .ensures) (c .result .ok)
+    let fourth = c .before in
+    let third = fourth .before in
+    let second = third .before in
+    let first = second .before in
+    let entry = first .before .before .before in
+    four-value _ _ _ _ _ (entry .pre .1 .0) (omega arith) (first .argument-value .ensures) (first .argument-value .ok) (second .argument-value2 .ensures)
+    (second .argument-value2 .ok) (third .argument-value3 .ensures) (third .argument-value3 .ok) (fourth .argument-value4 .ensures)
+    (fourth .argument-value4 .ok) (entry .pre .1 .1) (c .result .ensures) (c .result .ok)
 
 pub of-four-spec : {M : Type 1} → statement M
 of-four-spec =

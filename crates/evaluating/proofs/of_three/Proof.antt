@@ -10,30 +10,28 @@ add-argument-value : tie.Need-add-argument-value
 add-argument-value c = search needs
 
 argument-value-requires : tie.Need-argument-value-requires
-argument-value-requires c κs = (c .before .before .pre .0 .one) (omega arith)
+argument-value-requires c κs =
+    let entry = c .before .before in entry .pre .0 .one (omega arith)
 
 add-argument-value-2 : tie.Need-add-argument-value-2
 add-argument-value-2 c = search needs
 
 argument-value-requires-2 : tie.Need-argument-value-requires-2
-argument-value-requires-2 c κs = (c .before .before .before .pre .0 .two) (omega arith)
+argument-value-requires-2 c κs =
+    let entry = c .before .before .before in entry .pre .0 .two (omega arith)
 
 add-argument-value-3 : tie.Need-add-argument-value-3
 add-argument-value-3 c = search needs
 
 argument-value-requires-3 : tie.Need-argument-value-requires-3
-argument-value-requires-3 c κs = (c .before .before .before .before .pre .0 .three) (omega arith)
+argument-value-requires-3 c κs =
+    let entry = c .before .before .before .before in entry .pre .0 .three (omega arith)
 
 result-requires : tie.Need-result-requires
 result-requires c κs = search needs
 
 returns : tie.Need-returns
-returns c =
-    let entry = c .before .before .before .before in
-    three-value _ _ _ _ _ (entry .before .before .pre .1) (omega arith) (c .before .before .before .argument-value .ensures)
-    (c .before .before .before .argument-value .ok) (c .before .before .argument-value2 .ensures)
-    (c .before .before .argument-value2 .ok) (c .before .argument-value3 .ensures) (c .before .argument-value3 .ok) refl
-    (c .result .ensures) (c .result .ok)
+returns c = search (three-value, needs)
 
 pub of-three-spec : {M : Type 1} → statement M
 of-three-spec =

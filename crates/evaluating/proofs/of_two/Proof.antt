@@ -9,13 +9,15 @@ add-argument-value : tie.Need-add-argument-value
 add-argument-value c = search needs
 
 argument-value-requires : tie.Need-argument-value-requires
-argument-value-requires c κs = (c .before .before .pre .0 .one) (omega arith)
+argument-value-requires c κs =
+    let entry = c .before .before in entry .pre .0 .one (omega arith)
 
 add-argument-value-2 : tie.Need-add-argument-value-2
 add-argument-value-2 c = search needs
 
 argument-value-requires-2 : tie.Need-argument-value-requires-2
-argument-value-requires-2 c κs = (c .before .before .before .pre .0 .two) (omega arith)
+argument-value-requires-2 c κs =
+    let entry = c .before .before .before in entry .pre .0 .two (omega arith)
 
 result-requires : tie.Need-result-requires
 result-requires c κs = search needs

@@ -16,22 +16,18 @@ slice-aggregate-run-3 c = search needs
 
 slice-aggregate-run-4 : tie.Need-slice-aggregate-run-4
 slice-aggregate-run-4 c =
-    let e =
-    length-take (c .before .before .before .before .before .args .words) (c .before .before .before .before .before .args .tree .now)
-    in
-    let h = c .before .before .before .before .before .pre in
-    omega (arith, e, h .0)
+    let lent = c .before .before .before in
+    let entry = lent .before .before in
+    omega (arith, length-take (entry .args .words) (entry .args .tree .now), entry .pre .0)
 
 slice-relend-prefix-run : tie.Need-slice-relend-prefix-run
 slice-relend-prefix-run c = search needs
 
 slice-aggregate-run-5 : tie.Need-slice-aggregate-run-5
 slice-aggregate-run-5 c =
-    let e =
-    length-take (c .before .before .before .before .before .before .args .room) (c .before .before .before .before .before .before
-    .args .values .now) in
-    let h = c .before .before .before .before .before .before .pre in
-    omega (arith, e, h .1)
+    let lent = c .before .before .before in
+    let entry = lent .before .before .before in
+    omega (arith, length-take (entry .args .room) (entry .args .values .now), entry .pre .1)
 
 run-requires : tie.Need-run-requires
 run-requires c κs = search needs

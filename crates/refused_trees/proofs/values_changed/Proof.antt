@@ -42,9 +42,9 @@ loop-less c = search needs
 
 loop-again : tie.Need-loop-again Inv-loop μ-loop
 loop-again c =
-    let loop = c .before .before .before .before .loop in (
+    let turn = c .before .before .before .before in (
       refl,
-      count-with (c .one-if .result) (c .before .other-value .result) (loop .inv .1) (search needs)
+      count-with (c .one-if .result) (c .before .other-value .result) (turn .loop .inv .1) (search needs)
           (c .before .other-value .ensures ∙ ap otherValue (toZ-ofZ (record { sfits = c .before .before .other-value-arg .given }))) (c .one-if .ensures),
     )
 

@@ -20,11 +20,9 @@ slice-aggregate-run-2 c = search needs
 
 slice-aggregate-run-3 : tie.Need-slice-aggregate-run-3
 slice-aggregate-run-3 c =
-    let e =
-    length-take (8 * (c .before .before .before .before .before .args .nodes)) (c .before .before .before .before .before .args .tree
-    .now) in
-    let h = c .before .before .before .before .before .pre in
-    omega (arith, e, h .0 .0, h .1)
+    let lent = c .before .before .before in
+    let entry = lent .before .before in
+    omega (arith, length-take (8 * (entry .args .nodes)) (entry .args .tree .now), entry .pre .0 .0, entry .pre .1)
 
 slice-aggregate-run-4 : tie.Need-slice-aggregate-run-4
 slice-aggregate-run-4 c = search needs
