@@ -43,7 +43,8 @@ use Rattle.runner.specs.Whole as whole
 use Rattle.runner.specs.Answered as runner
 use Rattle.cases.specs.First.{roomWalk, idpWalk, readyWalk, walk}
 use Rattle.cases.specs.AllCases.{RunCase, PlanRefuses, Refuses}
-use Rattle.cases.proofs.PlanTests.{refusedWith, plan-walk}
+use Rattle.cases.proofs.PlanTests.{plan-walk}
+use Rattle.cases.proofs.PlanOutcomes.{refusedWith}
 use Rattle.cases.proofs.Refusals.{
   outcome-refused,
   outcome-accepted,
