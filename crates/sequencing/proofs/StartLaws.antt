@@ -48,7 +48,7 @@ use Rattle.sequencing.proofs.Makers.{Attribute, made-attribute, visit-e
 use Rattle.sequencing.proofs.OrderSteps.{passing-same}
 use Rattle.remaining.proofs.RemainsLaws.{remains-compute, remains-visit, remains-leave, Kind, aCompute, aVisit, aLeave, kind-of}
 use Rattle.remaining.proofs.MaskLaws.{in-set, set-in}
-use Rattle.sequencing.proofs.NextLaws.{orderly-rule, five-visits, symbol-is, set-from, visits-from}
+use Rattle.sequencing.proofs.GivenLaws.{orderly-rule, five-visits, symbol-is, set-from, visits-from}
 
 -- how many pass in two stretches
 count-add : (a b : ℕ) (f : ℕ → Bool) → count (a + b) f ≡ count a f + count b (λ i. f (a + i))
