@@ -18,7 +18,7 @@ use Rattle.sequencing.specs.Given.{Given}
 use Rattle.remaining.specs.Remaining.{remains}
 use Rattle.sequencing.specs.Going.{Going, Taken}
 use Rattle.sequencing.specs.Blocked.{Blocked}
-use Rattle.remaining.proofs.ReadySetLaws.{first-member, under-first}
+use Rattle.remaining.proofs.MemberWalks.{first-member, under-first}
 use Rattle.sequencing.proofs.ReadyComputes.{free-quiet, quiet-free}
 use Rattle.sequencing.proofs.OrderSteps.{taken}
 use Rattle.remaining.proofs.RemainsLaws.{remains-compute, less-compute}

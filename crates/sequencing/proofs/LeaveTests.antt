@@ -41,7 +41,7 @@ use Rattle.sequencing.specs.Given.{Given}
 use Rattle.remaining.specs.Remaining.{remains}
 use Rattle.sequencing.specs.Going.{Going}
 use Rattle.remaining.specs.RuleSets.{setMask, synthesizedMask, leaveFree, others, leaveReady}
-use Rattle.remaining.proofs.ReadySetLaws.{was-left}
+use Rattle.remaining.proofs.MemberWalks.{was-left}
 use Rattle.sequencing.proofs.Makers.{visit-even}
 use Rattle.sequencing.proofs.ReadyLeaves.{later-leaves, LeaveReady}
 use Rattle.remaining.proofs.RemainsLaws.{remains-compute, remains-visit, remains-leave, Kind, aCompute, aVisit, aLeave, kind-of}

@@ -26,7 +26,8 @@ use Rattle.sequencing.specs.Given.{Given}
 use Rattle.remaining.specs.Remaining.{remains, remaining}
 use Rattle.sequencing.specs.Going.{Going, Taken}
 use Rattle.remaining.specs.RuleSets.{handedDown, readyLeaves}
-use Rattle.remaining.proofs.ReadySetLaws.{first-member, under-first, leave-ready-at, leave-at-ready}
+use Rattle.remaining.proofs.MemberWalks.{first-member, under-first}
+use Rattle.remaining.proofs.LeaveSetLaws.{leave-ready-at, leave-at-ready}
 use Rattle.sequencing.proofs.Makers.{Attribute, even-of-visit, visit-even}
 use Rattle.sequencing.proofs.ReadyComputes.{waits-attribute}
 use Rattle.sequencing.proofs.ReadyLeaves.{free-leave, ready-leave}

@@ -21,7 +21,8 @@ use Rattle.remaining.specs.Remaining.{remains, remaining, Done}
 use Rattle.sequencing.specs.Going.{Going, Taken}
 use Rattle.sequencing.specs.Blocked.{Blocked}
 use Rattle.remaining.specs.RuleSets.{handedUp, handedDown, Children, Leaves, Along, readyVisits, readyLeaves}
-use Rattle.remaining.proofs.ReadySetLaws.{first-member, leave-ready-at}
+use Rattle.remaining.proofs.MemberWalks.{first-member}
+use Rattle.remaining.proofs.LeaveSetLaws.{leave-ready-at}
 use Rattle.remaining.proofs.MaskLaws.{ready-at}
 use Rattle.sequencing.proofs.GivenLaws.{visits-from}
 use Rattle.sequencing.proofs.ComputesTaken.{take-compute, no-compute-ready}

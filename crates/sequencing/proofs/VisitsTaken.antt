@@ -18,7 +18,7 @@ use Rattle.sequencing.specs.Given.{Given}
 use Rattle.remaining.specs.Remaining.{remains}
 use Rattle.sequencing.specs.Going.{Going, Taken}
 use Rattle.remaining.specs.RuleSets.{handedUp, Along, readyVisits}
-use Rattle.remaining.proofs.ReadySetLaws.{first-member, under-first}
+use Rattle.remaining.proofs.MemberWalks.{first-member, under-first}
 use Rattle.sequencing.proofs.Makers.{odd-of-visit, visit-odd}
 use Rattle.sequencing.proofs.ReadyComputes.{waits-attribute}
 use Rattle.sequencing.proofs.ReadyVisits.{VisitReady, free-visit, ready-visit}
