@@ -17,7 +17,8 @@ use Rattle.grammar.specs.Table.{rules, functionOf, defining}
 use Rattle.grammar.specs.Reading.{readTable}
 use Rattle.grammar.proofs.AcceptedTable.{accepted, defining-occurs}
 use Rattle.sequences.specs.Actions.{Action, compute, visit, leave, decode, isAction}
-use Rattle.sequences.proofs.ActionLaws.{decode-compute, decode-visit, decode-leave, action-belongs, belongs-compute, action-below}
+use Rattle.sequences.proofs.ActionNumbers.{decode-compute, decode-visit, decode-leave}
+use Rattle.sequences.proofs.ActionLaws.{action-belongs, belongs-compute, action-below}
 use Rattle.trees.specs.Tree.{nodes, ruleOf, appliesRule, child, cell}
 use Rattle.trees.specs.Checking.{checkTree}
 use Rattle.trees.proofs.AcceptedTree.{accepted-tree}

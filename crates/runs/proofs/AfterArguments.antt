@@ -42,15 +42,9 @@ use Rattle.sequences.specs.Actions.{
   synthesizedOf,
   makes,
 }
-use Rattle.sequences.proofs.ActionLaws.{
-  belongs-visit,
-  Decoded,
-  isCompute,
-  isVisit,
-  isLeave,
-  isNone,
-  decoded,
-  decode-compute,
+use Rattle.sequences.proofs.ActionNumbers.{Decoded, isCompute, isVisit, isLeave, isNone, decoded, decode-compute}
+use Rattle.sequences.proofs.ActionLaws.{belongs-visit}
+use Rattle.sequences.proofs.MakesLaws.{
   OfVisit,
   inherited-of,
   of-inherited,

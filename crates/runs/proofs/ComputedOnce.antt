@@ -11,7 +11,8 @@ use Rattle.basics.specs.Lists.{word}
 use Rattle.grammar.specs.Table.{rules, defining, position, attribute}
 use Rattle.grammar.proofs.AcceptedTable.{occurrence-fits}
 use Rattle.sequences.specs.Actions.{compute, decode}
-use Rattle.sequences.proofs.ActionLaws.{ActionIs, computes, visitsChild, leaves, decode-compute, compute-belongs}
+use Rattle.sequences.proofs.ActionNumbers.{decode-compute}
+use Rattle.sequences.proofs.ActionLaws.{ActionIs, computes, visitsChild, leaves, compute-belongs}
 use Rattle.trees.specs.Tree.{ruleOf, appliesRule, nodeAt}
 use Rattle.trees.specs.Definers.{DefinedAt, Definer, AttributeOf}
 use Rattle.trees.proofs.Cells.{cell-is, one-definer, definer, defined-occurs, defined-applies, occurrence-attribute, attribute-eight}

@@ -13,7 +13,9 @@ use Rattle.basics.proofs.TestLaws.{same-or-not}
 use Rattle.grammar.specs.Table.{defining}
 use Rattle.relations.specs.Computed.{idsOf}
 use Rattle.sequences.specs.Actions.{Action, compute, decode, makes}
-use Rattle.sequences.proofs.ActionLaws.{decode-compute, belongs-compute, action-belongs, makes-compute, compute-makes}
+use Rattle.sequences.proofs.ActionNumbers.{decode-compute}
+use Rattle.sequences.proofs.ActionLaws.{belongs-compute, action-belongs}
+use Rattle.sequences.proofs.MakesLaws.{makes-compute, compute-makes}
 use Rattle.sequencing.specs.Given.{Given}
 use Rattle.remaining.specs.Remaining.{remains}
 use Rattle.sequencing.specs.Going.{Going, Taken}

@@ -23,7 +23,7 @@ use Rattle.relations.specs.Paper.{Path⁺}
 use Rattle.relations.proofs.PathLaws.{path-join}
 use Rattle.access.specs.ByPlace.{symbolFrom}
 use Rattle.access.proofs.Accessors.{symbol-at-rule, rule-fits}
-use Rattle.sequences.proofs.Heights.{Orderly, setAt, fits}
+use Rattle.sequences.proofs.OrderlyRules.{Orderly, setAt, fits}
 use Rattle.sequences.proofs.PlannedSequences.{orderly}
 use Rattle.plans.specs.Answer.{edpPaths}
 use Rattle.sequencing.specs.Given.{Given}
@@ -67,7 +67,7 @@ module _ (g s rows : List ℕ) (p r : ℕ) (given : Given g s rows p r) where
       ap (λ (x : ℕ). hasb b x) (given .paths o h)
       ∙ (hasb-collect 64 b _ l ∙ ap (λ (x : List ℕ). edpPath g (idsOf g) x r o b) (sym (given .sets)))
 
-  pub set-from : (i o : ℕ) → position o ≡ i → setNumber s (symbolFrom g p i) (o % 8) ≡ setAt g (idsOf g) s r o
+  pub set-from : (i o : ℕ) → position o ≡ i → setNumber s (symbolFrom g p i) (o % 8) ≡ setAt g s r o
   unfolding setAt
   set-from i o q = ap (λ (x : ℕ). setNumber s x (o % 8)) (symbol-is i ∙ ap (λ (j : ℕ). symbolOf g r j) (sym q))
 

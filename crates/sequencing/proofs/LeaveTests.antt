@@ -35,8 +35,10 @@ use Rattle.relations.specs.Computed.{idsOf}
 use Rattle.sets.specs.Visits.{setNumber, visits}
 use Rattle.access.specs.ByPlace.{symbolFrom}
 use Rattle.sequences.specs.Actions.{Action, leave, decode, inheritedOf, makes}
-use Rattle.sequences.proofs.ActionLaws.{LeftLeave, belongs-leave, action-belongs, action-below, decode-leave, makes-leave}
-use Rattle.sequences.proofs.Heights.{setAt, left-nonterminal}
+use Rattle.sequences.proofs.ActionNumbers.{decode-leave}
+use Rattle.sequences.proofs.ActionLaws.{LeftLeave, belongs-leave, action-belongs, action-below}
+use Rattle.sequences.proofs.MakesLaws.{makes-leave}
+use Rattle.sequences.proofs.OrderlyRules.{setAt, left-nonterminal}
 use Rattle.sequencing.specs.Given.{Given}
 use Rattle.remaining.specs.Remaining.{remains}
 use Rattle.sequencing.specs.Going.{Going}
@@ -112,7 +114,7 @@ module _ (g s rows : List ℕ) (p r : ℕ) (given : Given g s rows p r) where
             T-not (hasb b (remove b l)) (has-not b l)
             (subst (λ (x : ℕ). T (hasb x (remove b l))) (only k q (was-left l b k i)) i)))
 
-        quiet : (o : ℕ) → T (hasb o w) → position o ≡ 0 → setAt g (idsOf g) s r o ≡ 2 * (visits s (symbolOf g r 0) + 1 - (b + 1)) - 1
+        quiet : (o : ℕ) → T (hasb o w) → position o ≡ 0 → setAt g s r o ≡ 2 * (visits s (symbolOf g r 0) + 1 - (b + 1)) - 1
             → T (not (eqb (remove b l) 0)) → ⊥
         quiet o y q k i =
             let z : o % 8 ≡ o = omega arith in
@@ -125,7 +127,7 @@ module _ (g s rows : List ℕ) (p r : ℕ) (given : Given g s rows p r) where
             ∙ (set-from g s rows p r given 0 o q ∙ (k ∙ ap (λ (x : ℕ). 2 * (x + 1 - (b + 1)) - 1) (sym (visits-from g s rows p r given 0)))))) y))
 
         -- the leave itself, which alone is left, makes nothing that it hands up
-        unmade : (o : ℕ) → setAt g (idsOf g) s r o ≡ 2 * (visits s (symbolOf g r 0) + 1 - (b + 1)) - 1 → remove b l ≡ 0
+        unmade : (o : ℕ) → setAt g s r o ≡ 2 * (visits s (symbolOf g r 0) + 1 - (b + 1)) - 1 → remove b l ≡ 0
             → (e : ℕ) × T (remains c v l e) × T (makes g s r (decode e) o) → ⊥
         unmade o k q e = go (kind-of (e .0))
           where

@@ -18,10 +18,11 @@ use Rattle.access.specs.ByPlace.{symbolFrom}
 use Rattle.sequences.specs.Actions.{Action, decode, actionNumbers, inheritedOf, makes}
 use Rattle.sequences.specs.Follows.{follows}
 use Rattle.sequences.specs.Order.{ready}
-use Rattle.sequences.proofs.ActionLaws.{action-below, makes-leave, leave-makes, inherited-of}
-use Rattle.sequences.proofs.OrderLaws.{ready-use}
+use Rattle.sequences.proofs.ActionLaws.{action-below}
+use Rattle.sequences.proofs.MakesLaws.{makes-leave, leave-makes, inherited-of}
+use Rattle.sequences.proofs.TieLaws.{ready-use}
 use Rattle.sequences.proofs.AlwaysReady.{always-ready}
-use Rattle.sequences.proofs.Heights.{setAt, left-nonterminal, set-low}
+use Rattle.sequences.proofs.OrderlyRules.{setAt, left-nonterminal, set-low}
 use Rattle.sequencing.specs.Given.{Given}
 use Rattle.remaining.specs.Remaining.{remains, remaining}
 use Rattle.sequencing.specs.Going.{Going, Taken}
@@ -128,7 +129,7 @@ module _ (g s rows : List ℕ) (p r : ℕ) (given : Given g s rows p r) where
               let q : position o ≡ 0 = omega (arith, k .0) in
               let z : o % 8 ≡ o = omega (arith, k .0) in
               let n : b + 2 ≡ suc (b + 1) = omega arith in
-              let e : setAt g (idsOf g) s r o ≡ 2 * (visits s (symbolOf g r 0) + 1 - suc (b + 1)) =
+              let e : setAt g s r o ≡ 2 * (visits s (symbolOf g r 0) + 1 - suc (b + 1)) =
               sym (set-from g s rows p r given 0 o q)
               ∙ (ap (λ (x : ℕ). setNumber s (symbolFrom g p 0) x) z
               ∙ (k .1

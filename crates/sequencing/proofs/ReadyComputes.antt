@@ -18,11 +18,12 @@ use Rattle.sets.specs.Visits.{visits}
 use Rattle.order.specs.Computed.{edp, edpPath}
 use Rattle.sequences.specs.Actions.{Action, decode, inheritedOf, makes}
 use Rattle.sequences.specs.Follows.{follows, besides}
-use Rattle.sequences.proofs.ActionLaws.{inherited-of, decode-compute, makes-compute}
+use Rattle.sequences.proofs.ActionNumbers.{decode-compute}
+use Rattle.sequences.proofs.MakesLaws.{inherited-of, makes-compute}
 use Rattle.grammar.proofs.OccurrenceLaws.{defining-left}
 use Rattle.sequences.proofs.FollowsLaws.{follows-cases, follows-linked, compute-after}
-use Rattle.sequences.proofs.Heights.{Orderly, fits, left-nonterminal, arc-starts, arc-beside, beside-down}
-use Rattle.sequences.proofs.SequenceLaws.{Maker, maker}
+use Rattle.sequences.proofs.OrderlyRules.{Orderly, fits, left-nonterminal, arc-starts, arc-beside, beside-down}
+use Rattle.sequences.proofs.AvailableFirst.{Maker, maker}
 use Rattle.sequencing.specs.Going.{Going}
 use Rattle.sequencing.proofs.Makers.{Attribute, made-attribute, arc-goal, set-high, visit-even, first-unmade}
 
@@ -50,7 +51,7 @@ module _ (g ids s : List ℕ) (r : ℕ) (h : Orderly g ids s r) (five : (x : ℕ
       e : (e : ℕ) × T (left e) × T (makes g s r (decode e) y)
       e = going .waits y t
 
-      made : Maker g ids s r h five z → ⊥
+      made : Maker g s r z → ⊥
       made m =
           n (going .makers (m .0) z
           (⊎-elim (λ q. subst⁻¹ (λ (x : ℕ). T (left x)) q (e .1))

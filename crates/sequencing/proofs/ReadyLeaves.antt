@@ -14,18 +14,13 @@ use Rattle.grammar.specs.Table.{symbolOf, nonterminal, inheritedAt, defining, p
 use Rattle.sets.specs.Visits.{visits}
 use Rattle.sequences.specs.Actions.{Action, leave, numberOf, decode, visitAt, inheritedOf, synthesizedOf, makes}
 use Rattle.sequences.specs.Follows.{besides, beforeLeave}
-use Rattle.sequences.proofs.ActionLaws.{
-  LeftLeave,
-  ActionIs,
-  computes,
-  visitsChild,
-  leaves,
-  action-is,
+use Rattle.sequences.proofs.ActionNumbers.{decode-compute}
+use Rattle.sequences.proofs.ActionLaws.{LeftLeave, ActionIs, computes, visitsChild, leaves, action-is}
+use Rattle.sequences.proofs.MakesLaws.{
   OfVisit,
   inherited-of,
   synthesized-of,
   of-synthesized,
-  decode-compute,
   makes-compute,
   makes-visit,
   makes-leave,
@@ -34,8 +29,9 @@ use Rattle.sequences.proofs.ActionLaws.{
 use Rattle.grammar.proofs.AcceptedTable.{defining-occurs}
 use Rattle.grammar.proofs.OccurrenceLaws.{defining-left, left-defining}
 use Rattle.sequences.proofs.FollowsLaws.{Linked, follows-cases, leave-after-leave, leave-after-compute, last-leave-after}
-use Rattle.sequences.proofs.Heights.{Orderly, BesideArc, setAt, fits, set-low, left-nonterminal, arc-beside, beside-down}
-use Rattle.sequences.proofs.SequenceLaws.{compute-stands, leave-number, leave-stands, visit-counts}
+use Rattle.sequences.proofs.OrderlyRules.{Orderly, BesideArc, setAt, fits, set-low, left-nonterminal, arc-beside, beside-down}
+use Rattle.sequences.proofs.SequenceLaws.{compute-stands, leave-number, leave-stands}
+use Rattle.sequences.proofs.AvailableFirst.{visit-counts}
 use Rattle.sequencing.specs.Going.{Going}
 use Rattle.sequencing.proofs.Makers.{Attribute, one-maker, defining-attribute, made-attribute, odd-of-visit, visit-even, visit-odd}
 use Rattle.sequencing.proofs.ReadyComputes.{Free, waits-attribute}
@@ -50,7 +46,7 @@ even-not-later v m n k f l h low = omega arith
 -- leave n is the next one, none of the attributes that it hands up waits, and where it is the last nothing else is left
 pub record LeaveReady (g ids s : List ℕ) (r : ℕ) (left : ℕ → Bool) (w n : ℕ) : Type 0 where
   pub next : (m : ℕ) → 1 ≤ m → m < n → T (left (numberOf (leave m))) → ⊥
-  pub handed : (o : ℕ) → T (hasb o w) → position o ≡ 0 → setAt g ids s r o ≡ 2 * (visits s (symbolOf g r 0) + 1 - n) - 1 → ⊥
+  pub handed : (o : ℕ) → T (hasb o w) → position o ≡ 0 → setAt g s r o ≡ 2 * (visits s (symbolOf g r 0) + 1 - n) - 1 → ⊥
   pub last : n ≡ visits s (symbolOf g r 0) → (b : ℕ) → T (left b) → b ≡ numberOf (leave n)
 
 module _ (g ids s : List ℕ) (r : ℕ) (h : Orderly g ids s r) (five : (x : ℕ) → visits s x ≤ 5) (left : ℕ → Bool) (w : ℕ)
@@ -145,7 +141,7 @@ module _ (g ids s : List ℕ) (r : ℕ) (h : Orderly g ids s r) (five : (x : ℕ
             place : position (u .source) ≡ 0
             place = beside .same ∙ v .0 .stands
 
-            high : 2 * (visits s (symbolOf g r 0) + 1 - suc n) ≤ setAt g ids s r (u .source)
+            high : 2 * (visits s (symbolOf g r 0) + 1 - suc n) ≤ setAt g s r (u .source)
             high =
                 omega (
                   arith,
@@ -162,7 +158,7 @@ module _ (g ids s : List ℕ) (r : ℕ) (h : Orderly g ids s r) (five : (x : ℕ
                 of-synthesized g s r 0 (visitAt g s r (u .source)) (u .source)
                 (record { occurs = beside .source; stands = place; visitIs = refl }) (defining-left g r (u .source) (k .0) place) in
                 no-left-compute (u .source) (subst (λ (x : ℕ). T (left x)) y t) (k .0) place
-                (odd-not-later (visits s (symbolOf g r 0)) (visitAt g s r (u .source)) n (setAt g ids s r (u .source))
+                (odd-not-later (visits s (symbolOf g r 0)) (visitAt g s r (u .source)) n (setAt g s r (u .source))
                 (visit-odd g ids s r h 0 (visitAt g s r (u .source)) (u .source) (left-nonterminal g ids s r h) z) high (c .last)
                 (set-low g ids s r h (u .source) (a .occurs) (a .there)))
             go₂ (visitsChild j m l q e d x) =
@@ -178,7 +174,7 @@ module _ (g ids s : List ℕ) (r : ℕ) (h : Orderly g ids s r) (five : (x : ℕ
                 let a : Attribute g r (u .source) =
                 record { occurs = beside .source; there = subst⁻¹ (λ (j : ℕ). T (nonterminal g (symbolOf g r j))) place (left-nonterminal g ids s r h) } in
                 let lower : m ≤ n =
-                even-not-later (visits s (symbolOf g r 0)) m n (setAt g ids s r (u .source))
+                even-not-later (visits s (symbolOf g r 0)) m n (setAt g s r (u .source))
                 (visit-even g ids s r h 0 (suc m) (u .source) (left-nonterminal g ids s r h) k) high (c .last)
                 (set-low g ids s r h (u .source) (a .occurs) (a .there)) in
                 ⊎-elim (λ p. ready .next m (x .first) p (subst (λ (p : ℕ). T (left p)) e t))

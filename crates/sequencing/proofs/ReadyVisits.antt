@@ -14,18 +14,13 @@ use Rattle.grammar.specs.Table.{symbolOf, inheritedAt, defining, position}
 use Rattle.sets.specs.Visits.{visits}
 use Rattle.sequences.specs.Actions.{Action, visit, numberOf, decode, visitAt, inheritedOf, synthesizedOf, makes}
 use Rattle.sequences.specs.Follows.{besides, beforeVisit}
-use Rattle.sequences.proofs.ActionLaws.{
-  ChildVisit,
-  ActionIs,
-  computes,
-  visitsChild,
-  leaves,
-  action-is,
+use Rattle.sequences.proofs.ActionNumbers.{decode-compute}
+use Rattle.sequences.proofs.ActionLaws.{ChildVisit, ActionIs, computes, visitsChild, leaves, action-is}
+use Rattle.sequences.proofs.MakesLaws.{
   OfVisit,
   inherited-of,
   synthesized-of,
   of-inherited,
-  decode-compute,
   makes-compute,
   makes-visit,
   makes-leave,
@@ -34,8 +29,9 @@ use Rattle.sequences.proofs.ActionLaws.{
 use Rattle.grammar.proofs.AcceptedTable.{defining-occurs}
 use Rattle.grammar.proofs.OccurrenceLaws.{defining-child, child-defining}
 use Rattle.sequences.proofs.FollowsLaws.{Linked, follows-cases, visit-after-visit, visit-after-compute}
-use Rattle.sequences.proofs.Heights.{Orderly, BesideArc, setAt, fits, arc-beside, beside-down}
-use Rattle.sequences.proofs.SequenceLaws.{compute-stands, visit-number, visit-stands, visit-counts}
+use Rattle.sequences.proofs.OrderlyRules.{Orderly, BesideArc, setAt, fits, arc-beside, beside-down}
+use Rattle.sequences.proofs.SequenceLaws.{compute-stands, visit-number, visit-stands}
+use Rattle.sequences.proofs.AvailableFirst.{visit-counts}
 use Rattle.sequencing.specs.Going.{Going}
 use Rattle.sequencing.proofs.Makers.{Attribute, one-maker, made-attribute, even-of-visit, visit-even, visit-odd}
 use Rattle.sequencing.proofs.ReadyComputes.{Free, waits-attribute}
@@ -58,7 +54,7 @@ earlier-visit g s r i n l c =
 -- visit n of child i is the next one of it, and none of the attributes that it takes along waits
 pub record VisitReady (g ids s : List ℕ) (r : ℕ) (left : ℕ → Bool) (w i n : ℕ) : Type 0 where
   pub next : (m : ℕ) → 1 ≤ m → m < n → T (left (numberOf (visit i m))) → ⊥
-  pub handed : (o : ℕ) → T (hasb o w) → position o ≡ i → setAt g ids s r o ≡ 2 * (visits s (symbolOf g r i) + 1 - n) → ⊥
+  pub handed : (o : ℕ) → T (hasb o w) → position o ≡ i → setAt g s r o ≡ 2 * (visits s (symbolOf g r i) + 1 - n) → ⊥
 
 module _ (g ids s : List ℕ) (r : ℕ) (h : Orderly g ids s r) (five : (x : ℕ) → visits s x ≤ 5) (left : ℕ → Bool) (w : ℕ)
     (going : Going g ids s r left w) where
@@ -154,7 +150,7 @@ module _ (g ids s : List ℕ) (r : ℕ) (h : Orderly g ids s r) (five : (x : ℕ
             place : position (u .source) ≡ i
             place = beside .same ∙ v .0 .stands
 
-            high : 2 * (visits s (symbolOf g r i) + 1 - n) - 1 ≤ setAt g ids s r (u .source)
+            high : 2 * (visits s (symbolOf g r i) + 1 - n) - 1 ≤ setAt g s r (u .source)
             high =
                 omega (
                   arith,
@@ -176,7 +172,7 @@ module _ (g ids s : List ℕ) (r : ℕ) (h : Orderly g ids s r) (five : (x : ℕ
                 let k = makes-visit g s r j m (u .source) (subst (λ (x : Action). T (makes g s r x (u .source))) d (u .sourceMade)) in
                 let y : j ≡ i = sym (synthesized-of g s r j m (u .source) (k .1) .0 .stands) ∙ place in
                 let z = visit-odd g ids s r h j m (u .source) (k .0) (k .1) in
-                let lower : m ≤ n = not-later (visits s (symbolOf g r j)) (visits s (symbolOf g r i)) m n (setAt g ids s r (u .source)) (ap (λ (p : ℕ). visits s (symbolOf g r p)) y) z high (c .last) in
+                let lower : m ≤ n = not-later (visits s (symbolOf g r j)) (visits s (symbolOf g r i)) m n (setAt g s r (u .source)) (ap (λ (p : ℕ). visits s (symbolOf g r p)) y) z high (c .last) in
                 ⊎-elim
                 (λ p.
                 ready .next m (x .first) p

@@ -13,7 +13,9 @@ use Rattle.relations.specs.Computed.{idsOf}
 use Rattle.sets.specs.Visits.{setNumber}
 use Rattle.access.specs.ByPlace.{symbolFrom}
 use Rattle.sequences.specs.Actions.{Action, visit, decode, makes}
-use Rattle.sequences.proofs.ActionLaws.{ChildVisit, decode-number, belongs-visit, action-belongs, makes-visit, visit-makes, synthesized-of}
+use Rattle.sequences.proofs.ActionNumbers.{decode-number}
+use Rattle.sequences.proofs.ActionLaws.{ChildVisit, belongs-visit, action-belongs}
+use Rattle.sequences.proofs.MakesLaws.{makes-visit, visit-makes, synthesized-of}
 use Rattle.sequencing.specs.Given.{Given}
 use Rattle.remaining.specs.Remaining.{remains}
 use Rattle.sequencing.specs.Going.{Going, Taken}
