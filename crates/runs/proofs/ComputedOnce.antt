@@ -22,7 +22,8 @@ use Rattle.runs.specs.Balance.{Given, Balanced}
 use Rattle.runs.specs.Computing.{machineAt, OnTop, Computing, AboutTo}
 use Rattle.runs.proofs.SequenceCounts.{same-action, action-there}
 use Rattle.runs.proofs.Steps.{action-of, top-inside, top-applies}
-use Rattle.runs.proofs.Balance.{rule-known, top-left, top-action, after-balanced}
+use Rattle.runs.proofs.Balance.{rule-known, top-left, top-action}
+use Rattle.runs.proofs.BalanceKept.{after-balanced}
 use Rattle.runs.proofs.Moments.{moment, one-moment, before-total}
 
 module _ {g p t : List ℕ} {l : ℕ} (given : Given g p t l) (values : List ℤ) where
