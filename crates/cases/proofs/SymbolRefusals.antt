@@ -18,7 +18,7 @@ use Rattle.grammar.specs.Table.{symbols, rules, start, symbolAt, kind, attribut
 use Rattle.grammar.specs.Verdicts.{_then_, unless, each}
 use Rattle.grammar.specs.Reading.{present, ranged, header, symbolFault, startClass}
 use Rattle.grammar.proofs.VerdictLaws.{each-at}
-use Rattle.grammar.proofs.AcceptedTable.{ranged-passes, symbol-formed}
+use Rattle.grammar.proofs.AcceptedSymbols.{ranged-passes, symbol-formed}
 use Rattle.cases.specs.TableCases.{TableCase}
 use Rattle.cases.specs.TableCases as case
 use Rattle.cases.proofs.PassedLaws.{Within, within-then, within-unless, within-each}

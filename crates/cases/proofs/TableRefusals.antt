@@ -47,7 +47,7 @@ use Rattle.grammar.specs.Reading.{
   leftOver,
   readTable,
 }
-use Rattle.grammar.proofs.AcceptedTable.{ranged-passes, header-start}
+use Rattle.grammar.proofs.AcceptedSymbols.{ranged-passes, header-start}
 use Rattle.grammar.proofs.RuleStarts.{rule-step}
 use Rattle.cases.specs.TableCases.{HasFunction, TableCase}
 use Rattle.cases.specs.TableCases as case
