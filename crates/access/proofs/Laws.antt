@@ -22,7 +22,7 @@ use Rattle.grammar.specs.declared.Verdict.the-variants.{Good, Refused}
 use Rattle.grammar.specs.Verdicts.{_then_, unless, each}
 use Rattle.grammar.specs.Table.{nonterminal, mask, argumentWords, lengthAt, functionsAt}
 use Rattle.grammar.specs.Reading.{present, ranged}
-use Rattle.grammar.proofs.AcceptedTable.{ranged-passes}
+use Rattle.grammar.proofs.AcceptedSymbols.{ranged-passes}
 use Rattle.access.specs.ByPlace.{symbolFrom, symbolTest, argumentFrom, argumentsFrom}
 
 -- a verdict that is no good one answers for the chain

@@ -22,7 +22,7 @@ use Rattle.grammar.specs.Limits.{longestRight, mostFunctions, lastOperation}
 use Rattle.grammar.specs.Table.{symbols, attributes, inherited, argumentWords, isConstant, lengthAt, functionAt, functionsAt, functionOf, functions, ruleAt, rightLength, symbolOf, target, operation, argument, occurrence, inheritedAt, definingClass, defining, position, attribute}
 use Rattle.grammar.specs.Verdicts.{_then_, unless, each}
 use Rattle.grammar.specs.Reading.{present, ranged, leftFault, definedBelow, argumentFault, functionFault, bodyFault, complete, ruleBefore, ruleFault}
-use Rattle.grammar.proofs.AcceptedTable.{ranged-passes}
+use Rattle.grammar.proofs.AcceptedSymbols.{ranged-passes}
 use Rattle.access.specs.ByPlace.{symbolFrom, occurrenceFrom, definingFrom, occurrencesAt, definingsAt, leftFrom, symbolTest, argumentFrom, argumentsFrom, functionFrom, undefinedAfter, functionsFrom, bodyFrom, ruleFrom, leaves}
 use Rattle.access.proofs.Laws.{then-same, each-same}
 use Rattle.access.proofs.Blocks.{past, past-defining}

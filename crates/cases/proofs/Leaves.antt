@@ -20,7 +20,8 @@ use Rattle.runs.specs.Run.{ran, runAnswer, valuesAfter}
 use Rattle.runner.specs.Whole.{came, leftPlan, answer, values}
 use Rattle.cases.specs.First.{roomWalk, idpWalk, readyWalk, walk, earlierWalk}
 use Rattle.cases.specs.AllCases.{inPlan, PlanRefuses, Refuses}
-use Rattle.cases.proofs.PlanTests.{refusedWith, plan-walk, plan-outcome, plan-done}
+use Rattle.cases.proofs.PlanTests.{plan-walk}
+use Rattle.cases.proofs.PlanOutcomes.{refusedWith, plan-outcome, plan-done}
 use Rattle.cases.proofs.RunTests.{runs, run-refused}
 
 -- how far planning came, by the walk of the refusal

@@ -24,7 +24,8 @@ use Rattle.cases.specs.PlanningCases.{PlanCase}
 use Rattle.cases.specs.TreeCases.{TreeCase}
 use Rattle.cases.specs.AllCases.{RunCase, PlanRefuses, Refuses}
 use Rattle.cases.proofs.TableTests.{table-verdict}
-use Rattle.cases.proofs.PlanTests.{refusedWith}
+use Rattle.cases.proofs.PlanOutcomes.{refusedWith}
+use Rattle.cases.proofs.PlanOutcomes as outcomes
 use Rattle.cases.proofs.PlanTests as plan
 use Rattle.cases.proofs.TreeTests.{tree-verdict}
 use Rattle.cases.proofs.RunTests as run
@@ -48,10 +49,10 @@ tree-good g t valuesLength good = tree-verdict g t valuesLength (well-formed g g
 module _ (g : List ℕ) (rowsLength planLength : ℕ) where
   -- planning: 1 to 11, how far it comes and what it answers
   pub outcome-refused : (n : Refusal) → (outcome g rowsLength planLength ≡ refusedWith g n) ↔ PlanRefuses g rowsLength planLength n
-  outcome-refused n = plan.plan-outcome g rowsLength planLength n
+  outcome-refused n = outcomes.plan-outcome g rowsLength planLength n
 
   pub outcome-accepted : (outcome g rowsLength planLength ≡ accepted) ↔ ((n : Refusal) → ¬ PlanCase g rowsLength planLength n)
-  outcome-accepted = plan.plan-done g rowsLength planLength
+  outcome-accepted = outcomes.plan-done g rowsLength planLength
 
   pub planning-refused : (n : Refusal)
       → (answerOf g (outcome g rowsLength planLength) ≡ P.the-variants.Refused n) ↔ PlanRefuses g rowsLength planLength n

@@ -26,8 +26,10 @@ use Rattle.cases.specs.TreeCases.{TreeCase}
 use Rattle.cases.specs.AllCases.{RunCase, inPlan, inTree, Refuses}
 use Rattle.cases.proofs.FirstLaws.{good-not-refused, goes-then}
 use Rattle.cases.proofs.TableTests.{table-verdict}
-use Rattle.cases.proofs.PlanTests.{verdictOf, plan-walk, plan-verdict}
-use Rattle.cases.proofs.TreeTests.{tree-place, tree-verdict}
+use Rattle.cases.proofs.PlanningFirst.{verdictOf}
+use Rattle.cases.proofs.PlanTests.{plan-walk, plan-verdict}
+use Rattle.cases.proofs.TreeKeys.{tree-place}
+use Rattle.cases.proofs.TreeTests.{tree-verdict}
 
 -- A run that is carried out is done or stopped.
 last-runs : (b : Bool) (count : ℕ) (n : Refusal) → lastAnswer b count ≡ R.the-variants.Refused n → ⊥

@@ -43,7 +43,7 @@ use Rattle.cases.specs.First.{readyWalk, walk}
 use Rattle.cases.specs.PlanningCases.{PlanCase}
 use Rattle.cases.specs.TreeCases.{TreeCase}
 use Rattle.cases.specs.AllCases.{RunCase, inPlan, inTree, PlanRefuses, Refuses}
-use Rattle.cases.proofs.TreeTests.{tree-place}
+use Rattle.cases.proofs.TreeKeys.{tree-place}
 use Rattle.cases.proofs.PlanTests.{plan-walk}
 use Rattle.cases.proofs.Refusals.{outcome-accepted, planning-refused, planning-accepted, tree-good, run-refused}
 use Rattle.cases.proofs.Leaves.{tree-late, values-stay}

@@ -3,19 +3,18 @@
 use Prim.Native.Nat.{ℕ, zero, suc, _+_, _*_, _-_, _/_, _%_, _≤_, _<_, min}
 use mathlib.Core.Path.{_≡_, refl, sym, _∙_, ap, subst}
 use mathlib.Core.Logic.{_⊎_, inl, inr, ⊎-elim, _↔_}
-use mathlib.Core.Bool.{Bool, true, false, cond}
 use mathlib.Core.List.{List}
 use native.Mathlib.Omega.{arith}
-use lib.Dec.{T, leb, leb→le, nleb→lt, lt→ltb}
+use lib.Dec.{T, lt→ltb}
 use lib.IntN.{ℤ}
 use lib.ListN.{length}
 use lib.Seq.{ext-getD}
 use Rattle.basics.specs.Lists.{word}
-use Rattle.basics.proofs.TestLaws.{below-or-not, tested, chosen, passed-over}
+use Rattle.basics.proofs.TestLaws.{below-or-not}
 use Rattle.bits.specs.Bit.{bit}
 use Rattle.bits.proofs.BitLaws.{bit-le, bits-ext}
 use Rattle.refusals.specs.declared.Refusal.{Refusal}
-use Rattle.grammar.specs.Limits.{rowWords, planWords}
+use Rattle.grammar.specs.Limits.{mostOccurrences, setWords, ruleWords, rowWords, planWords}
 use Rattle.grammar.specs.declared.Verdict.the-variants.{Good}
 use Rattle.grammar.specs.Table.{rules, ruleCounts}
 use Rattle.grammar.specs.Reading.{readTable}
@@ -31,7 +30,7 @@ use Rattle.sequences.specs.Paper.{Sequence}
 use Rattle.sequences.proofs.PaperSequence.{sequence-obeys}
 use Rattle.plans.specs.declared.Planned as P
 use Rattle.plans.specs.Sequences.{sequenceLength, actionAt}
-use Rattle.plans.specs.Answer.{Outcome, untouched, circularIdp, unordered, accepted, outcome, answerOf, rowsAfter, planAfter}
+use Rattle.plans.specs.Answer.{Outcome, accepted, outcome, answerOf, rowsAfter, planAfter}
 use Rattle.plans.specs.Left.{RowsHold, EDP⁺, SequenceStands, Written, Beyond}
 use Rattle.plans.proofs.Stays.{past-room, rows-stay, plan-stay}
 use Rattle.planner.specs.Answered.{Answered}
@@ -43,52 +42,36 @@ use Rattle.runner.specs.Whole as whole
 use Rattle.runner.specs.Answered as runner
 use Rattle.cases.specs.First.{roomWalk, idpWalk, readyWalk, walk}
 use Rattle.cases.specs.AllCases.{RunCase, PlanRefuses, Refuses}
-use Rattle.cases.proofs.PlanTests.{refusedWith, plan-walk}
-use Rattle.cases.proofs.Refusals.{
-  outcome-refused,
-  outcome-accepted,
-  planning-refused,
-  planning-accepted,
-  run-refused,
-  run-carried-out,
-}
+use Rattle.cases.proofs.PlanTests.{plan-walk}
+use Rattle.cases.proofs.Refusals.{outcome-accepted, planning-refused, planning-accepted, run-refused, run-carried-out}
 use Rattle.cases.proofs.Leaves.{tree-late}
 use Rattle.demands.specs.Demands.{Leaves, Stays, Demand1, Demand1Run, Given, Demand2, Demand3, Demand3Run}
 use Rattle.demands.proofs.LeavesLaws.{read-past, free-past, accepted-read, accepted-free, written-accepted}
-use Rattle.demands.proofs.Demands.{
-  computed-1,
-  computed-2,
-  plan-first,
-  computed-1-run,
-  is-accepted,
-  is-read,
-  run-ordered,
-  demand-3,
-}
+use Rattle.demands.proofs.Demands.{computed-1, computed-2, plan-first, computed-1-run, is-accepted, is-read, run-ordered, demand-3}
 
 -- rows that hold one relation, over one lent buffer, are one
 pub one-rows : (g : List ℕ) (path : ℕ → ℕ → ℕ → Type 0) (lent s t : List ℕ) → RowsHold g s path → RowsHold g t path
     → Beyond (rowWords (rules g)) lent s → Beyond (rowWords (rules g)) lent t → s ≡ t
 one-rows g path lent s t v w b c =
-    ext-getD 0 s t (b .asMany ∙ sym (c .asMany)) (λ j h. ⊎-elim (inside j) (λ l. b .stay j l ∙ sym (c .stay j l)) (below-or-not j (64 * rules g)))
+    ext-getD 0 s t (b .asMany ∙ sym (c .asMany)) (λ j h. ⊎-elim (inside j) (λ l. b .stay j l ∙ sym (c .stay j l)) (below-or-not j (rowWords (rules g))))
   where
     same-bit : (x y : ℕ) → ((x ≡ 1) ↔ (y ≡ 1)) → x ≤ 1 → y ≤ 1 → x ≡ y
     same-bit zero zero e h l = refl
     same-bit zero (suc y) e h l = omega (arith, e .1 (omega arith))
     same-bit (suc x) y e h l = omega (arith, e .0 (omega arith))
 
-    inside : (j : ℕ) → j < 64 * rules g → word s j ≡ word t j
+    inside : (j : ℕ) → j < rowWords (rules g) → word s j ≡ word t j
     inside j l =
-        let r : ℕ = j / 64 in
-        let o : ℕ = j % 64 in
-        let e : 64 * r + o ≡ j = omega arith in
+        let r : ℕ = j / mostOccurrences in
+        let o : ℕ = j % mostOccurrences in
+        let e : mostOccurrences * r + o ≡ j = omega arith in
         let k : T (ruleCounts g r) = lt→ltb r (rules g) (omega arith) in
         bits-ext (word s j) (word t j)
         (λ i.
         subst (λ (q : ℕ). bit i (word s q) ≡ bit i (word t q)) e
-        (same-bit (bit i (word s (64 * r + o))) (bit i (word t (64 * r + o)))
+        (same-bit (bit i (word s (mostOccurrences * r + o))) (bit i (word t (mostOccurrences * r + o)))
         (λ p. w r o i k (omega arith) .1 (v r o i k (omega arith) .0 p), λ p. v r o i k (omega arith) .1 (w r o i k (omega arith) .0 p))
-        (bit-le i (word s (64 * r + o))) (bit-le i (word t (64 * r + o)))))
+        (bit-le i (word s (mostOccurrences * r + o))) (bit-le i (word t (mostOccurrences * r + o)))))
 
 -- plans in which the same sets and sequences stand, over one lent buffer, are one
 pub one-plan : (g : List ℕ) (set : ℕ → ℕ → ℕ) (lent rows₁ rows₂ s t : List ℕ) → ((r : ℕ) → T (ruleCounts g r) → (out : List ℕ) × Sequence g set r out)
@@ -98,81 +81,35 @@ one-plan g set lent rows₁ rows₂ s t some v w b c =
     ext-getD 0 s t (b .asMany ∙ sym (c .asMany))
     (λ j h.
     ⊎-elim (numbers j)
-    (λ l. ⊎-elim (inside j l) (λ m. b .stay j m ∙ sym (c .stay j m)) (below-or-not j (256 + 112 * rules g))) (below-or-not j 256))
+    (λ l. ⊎-elim (inside j l) (λ m. b .stay j m ∙ sym (c .stay j m)) (below-or-not j (planWords (rules g)))) (below-or-not j setWords))
   where
-    numbers : (j : ℕ) → j < 256 → word s j ≡ word t j
+    numbers : (j : ℕ) → j < setWords → word s j ≡ word t j
     numbers j l =
         let e : 8 * (j / 8) + j % 8 ≡ j = omega arith in
         subst (λ (q : ℕ). word s q ≡ word t q) e
         (v .setWord (j / 8) (j % 8) (omega arith) (omega arith) ∙ sym (w .setWord (j / 8) (j % 8) (omega arith) (omega arith)))
 
-    in-block : (r : ℕ) → T (ruleCounts g r) → (k : ℕ) → k < 112 → word s (256 + 112 * r + k) ≡ word t (256 + 112 * r + k)
+    in-block : (r : ℕ) → T (ruleCounts g r) → (k : ℕ) → k < ruleWords → word s (setWords + ruleWords * r + k) ≡ word t (setWords + ruleWords * r + k)
     in-block r q zero l =
         let out = some r q in
-        let e : 256 + 112 * r ≡ 256 + 112 * r + 0 = omega arith in
+        let e : setWords + ruleWords * r ≡ setWords + ruleWords * r + 0 = omega arith in
         subst (λ (n : ℕ). word s n ≡ word t n) e
         (v .sequence r q (out .0) (out .1) .lengthIs ∙ sym (w .sequence r q (out .0) (out .1) .lengthIs))
     in-block r q (suc k) l =
         let out = some r q in
         let x : SequenceStands s r (out .0) = v .sequence r q (out .0) (out .1) in
         let y : SequenceStands t r (out .0) = w .sequence r q (out .0) (out .1) in
-        let e : 256 + 112 * r + 1 + k ≡ 256 + 112 * r + suc k = omega arith in
+        let e : setWords + ruleWords * r + 1 + k ≡ setWords + ruleWords * r + suc k = omega arith in
         subst (λ (n : ℕ). word s n ≡ word t n) e
         (⊎-elim (λ m. x .actionIs k m ∙ sym (y .actionIs k m)) (λ m. x .zeros k m (omega arith) ∙ sym (y .zeros k m (omega arith)))
         (below-or-not k (length (out .0))))
 
-    inside : (j : ℕ) → 256 ≤ j → j < 256 + 112 * rules g → word s j ≡ word t j
+    inside : (j : ℕ) → setWords ≤ j → j < planWords (rules g) → word s j ≡ word t j
     inside j l m =
-        let r : ℕ = (j - 256) / 112 in
-        let k : ℕ = (j - 256) % 112 in
-        let e : 256 + 112 * r + k ≡ j = omega arith in
+        let r : ℕ = (j - setWords) / ruleWords in
+        let k : ℕ = (j - setWords) % ruleWords in
+        let e : setWords + ruleWords * r + k ≡ j = omega arith in
         subst (λ (q : ℕ). word s q ≡ word t q) e (in-block r (lt→ltb r (rules g) (omega arith)) k (omega arith))
-
--- the walk of a refusal is told by how far planning came with it
-module _ (g : List ℕ) (n : Refusal) where
-  untouched-walk : refusedWith g n ≡ untouched n → walk g n ≤ roomWalk
-  untouched-walk e =
-      ⊎-elim (λ t. leb→le (walk g n) roomWalk t)
-      (λ t. absurd (inner (leb (walk g n) idpWalk) (sym (passed-over (leb (walk g n) roomWalk) (untouched n) _ t) ∙ e)))
-      (tested (leb (walk g n) roomWalk))
-    where
-      inner : (b : Bool) → cond b (circularIdp n) (unordered n) ≡ untouched n → ⊥
-      inner true q = let z : _≡_ {A = ℕ} 0 1 = cc in omega arith
-      inner false q = let z : _≡_ {A = ℕ} 0 1 = cc in omega arith
-
-  circular-walk : refusedWith g n ≡ circularIdp n → walk g n ≡ idpWalk
-  circular-walk e =
-      ⊎-elim
-      (λ t.
-      absurd
-      (let q : untouched n ≡ circularIdp n = sym (chosen (leb (walk g n) roomWalk) (untouched n) _ t) ∙ e in
-      let z : _≡_ {A = ℕ} 0 1 = cc in omega arith))
-      (λ t.
-      ⊎-elim (λ u. omega (arith, nleb→lt (walk g n) roomWalk t, leb→le (walk g n) idpWalk u))
-      (λ u.
-      absurd
-      (let q : unordered n ≡ circularIdp n =
-      sym (passed-over (leb (walk g n) roomWalk) (untouched n) _ t ∙ passed-over (leb (walk g n) idpWalk) (circularIdp n) (unordered n) u) ∙ e in
-      let z : _≡_ {A = ℕ} 0 1 = cc in omega arith))
-      (tested (leb (walk g n) idpWalk)))
-      (tested (leb (walk g n) roomWalk))
-
-  unordered-walk : refusedWith g n ≡ unordered n → idpWalk < walk g n
-  unordered-walk e =
-      ⊎-elim
-      (λ t.
-      absurd
-      (let q : untouched n ≡ unordered n = sym (chosen (leb (walk g n) roomWalk) (untouched n) _ t) ∙ e in
-      let z : _≡_ {A = ℕ} 0 1 = cc in omega arith))
-      (λ t.
-      ⊎-elim
-      (λ u.
-      absurd
-      (let q : circularIdp n ≡ unordered n =
-      sym (passed-over (leb (walk g n) roomWalk) (untouched n) _ t ∙ chosen (leb (walk g n) idpWalk) (circularIdp n) (unordered n) u) ∙ e in
-      let z : _≡_ {A = ℕ} 0 1 = cc in omega arith))
-      (λ u. nleb→lt (walk g n) idpWalk u) (tested (leb (walk g n) idpWalk)))
-      (tested (leb (walk g n) roomWalk))
 
 -- what two refusals with one case leave is one
 module _ (g rows plan : List ℕ) where
@@ -182,33 +119,21 @@ module _ (g rows plan : List ℕ) where
   module _ (n : Refusal) (first : PlanRefuses g (length rows) (length plan) n) (s p : List ℕ) (v : Leaves g rows plan n s p)
       (w : Leaves g rows plan n (rowsAfter g came rows) (planAfter g came plan)) (b : Beyond (rowWords (rules g)) rows s) where
     same-rows : s ≡ rowsAfter g came rows
-    same-rows = go came refl
+    same-rows =
+        ⊎-elim ordering
+        (λ h. ⊎-elim (λ l. circular (omega arith)) (λ l. v .nothing l .0 ∙ sym (w .nothing l .0)) (below-or-not roomWalk (walk g n)))
+        (below-or-not idpWalk (walk g n))
       where
-        comes : came ≡ refusedWith g n
-        comes = outcome-refused g (length rows) (length plan) n .1 first
-
-        same : (k : Refusal) (f : Refusal → Outcome) → came ≡ f k → ((m : Refusal) → answerOf g (f m) ≡ P.the-variants.Refused m) → k ≡ n
-        same k f e h =
-            let q : P.the-variants.Refused k ≡ P.the-variants.Refused n =
-            sym (ap (answerOf g) e ∙ h k) ∙ planning-refused g (length rows) (length plan) n .1 first in cc
-
-        go : (o : Outcome) → came ≡ o → s ≡ rowsAfter g came rows
-        go (untouched k) e =
-            let q : k ≡ n = same k untouched e (λ m. unfold answerOf in refl) in
-            let h : walk g n ≤ roomWalk = untouched-walk g n (sym comes ∙ (e ∙ ap untouched q)) in
-            v .nothing h .0 ∙ sym (w .nothing h .0)
-        go (circularIdp k) e =
-            let q : k ≡ n = same k circularIdp e (λ m. unfold answerOf in refl) in
-            let h : walk g n ≡ idpWalk = circular-walk g n (sym comes ∙ (e ∙ ap circularIdp q)) in
+        circular : walk g n ≡ idpWalk → s ≡ rowsAfter g came rows
+        circular h =
             one-rows g (λ r o b. IDP⁺ g r o b) rows s (rowsAfter g came rows) (v .idpPaths h) (w .idpPaths h) b (rows-stay g rows plan)
-        go (unordered k) e =
-            let q : k ≡ n = same k unordered e (λ m. unfold answerOf in refl) in
-            let h : idpWalk < walk g n = unordered-walk g n (sym comes ∙ (e ∙ ap unordered q)) in
+
+        ordering : idpWalk < walk g n → s ≡ rowsAfter g came rows
+        ordering h =
             let free : CircularIDP g → ⊥ = free-past g rows plan n first h in
             let sets : PaperSets g (computedSets g) = sets-exist g (read-past g rows plan n first (omega arith)) free in
             one-rows g (EDP⁺ g (computedSets g)) rows s (rowsAfter g came rows) (v .edpPaths h (computedSets g) sets)
             (w .edpPaths h (computedSets g) sets) b (rows-stay g rows plan)
-        go accepted e = absurd (outcome-accepted g (length rows) (length plan) .0 e n (first .applies))
 
     same-plan : p ≡ planAfter g came plan
     same-plan =

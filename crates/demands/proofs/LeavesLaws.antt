@@ -22,8 +22,8 @@ use Rattle.cases.specs.First.{ruleWalk, roomWalk, idpWalk, readyWalk, walk, ear
 use Rattle.cases.specs.PlanningCases.{inTable, inPlanning}
 use Rattle.cases.specs.PlanningCases as case
 use Rattle.cases.specs.AllCases.{PlanRefuses}
-use Rattle.cases.proofs.TableTests.{table-walk}
-use Rattle.cases.proofs.PlanTests.{refusedWith}
+use Rattle.cases.proofs.TableOrder.{table-walk}
+use Rattle.cases.proofs.PlanOutcomes.{refusedWith}
 use Rattle.cases.proofs.Refusals.{table-good, outcome-refused, outcome-accepted}
 use Rattle.cases.proofs.Leaves.{early-came, nine-came, ten-came}
 use Rattle.demands.specs.Demands.{Leaves}

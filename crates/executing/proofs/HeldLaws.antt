@@ -13,7 +13,8 @@ use Rattle.basics.specs.Lists.{word}
 use Rattle.grammar.specs.Table.{rules, functionOf, defining}
 use Rattle.grammar.proofs.AcceptedTable.{defining-occurs}
 use Rattle.sequences.specs.Actions.{Action, compute, decode, isAction}
-use Rattle.sequences.proofs.ActionLaws.{decode-compute, action-belongs, belongs-compute}
+use Rattle.sequences.proofs.ActionNumbers.{decode-compute}
+use Rattle.sequences.proofs.ActionLaws.{action-belongs, belongs-compute}
 use Rattle.trees.specs.Tree.{nodes, ruleOf, appliesRule, cell}
 use Rattle.trees.proofs.Cells.{cell-inside}
 use Rattle.evaluating.specs.FunctionPlaces.{Valued}

@@ -11,7 +11,8 @@ use lib.Seq.{getD-set-same, getD-set-other, set-getD}
 use Rattle.basics.specs.Lists.{word}
 use Rattle.basics.proofs.TestLaws.{below-suc, below-or-not}
 use Rattle.sequences.specs.Actions.{compute, visit, leave}
-use Rattle.sequences.proofs.ActionLaws.{decode-compute, decode-visit, decode-leave, action-below}
+use Rattle.sequences.proofs.ActionNumbers.{decode-compute, decode-visit, decode-leave}
+use Rattle.sequences.proofs.ActionLaws.{action-below}
 use Rattle.trees.specs.Tree.{nodes, ruleOf, child, cell}
 use Rattle.evaluating.proofs.PlaceLaws.{by-number}
 use Rattle.runs.specs.declared.Ran as R

@@ -14,7 +14,7 @@ use Rattle.grammar.specs.Verdicts.{each}
 use Rattle.grammar.specs.Reading.{ranged}
 use Rattle.grammar.specs.WellFormed.{SymbolFormed}
 use Rattle.grammar.proofs.VerdictLaws.{then-first, each-at}
-use Rattle.grammar.proofs.AcceptedTable.{ranged-passes}
+use Rattle.grammar.proofs.AcceptedSymbols.{ranged-passes}
 use Rattle.grammar.proofs.RuleStarts.{functions-bound}
 use Rattle.access.specs.ByPlace.{symbolFrom, occurrencesAt, definingsAt, Shaped, Symbols, leftFrom, symbolTest, undefinedAfter, functionsFrom, Handed}
 use Rattle.access.proofs.Laws.{ranged-le, refused-good}

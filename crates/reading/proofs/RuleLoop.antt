@@ -18,7 +18,7 @@ use Rattle.grammar.specs.Table.{symbols, rules, ruleAt}
 use Rattle.grammar.specs.Verdicts.{_then_, unless, each}
 use Rattle.grammar.specs.Reading.{header, symbolFault, startClass, ruleBefore, ruleFault, leftOver, readTable}
 use Rattle.grammar.proofs.VerdictLaws.{each-at}
-use Rattle.grammar.proofs.AcceptedTable.{symbol-formed, header-symbols, header-rules}
+use Rattle.grammar.proofs.AcceptedSymbols.{symbol-formed, header-symbols, header-rules}
 use Rattle.access.specs.Offsets.{offsetsFor}
 use Rattle.access.specs.ByPlace.{Symbols, ruleFrom, nextRule, leaves, Handed}
 use Rattle.access.proofs.Laws.{passes, each-none, each-more, each-stop, each-end, each-of}

@@ -1,4 +1,9 @@
 pub mod RemainsLaws
 pub mod MaskLaws
-pub mod CodeLaws
-pub mod ReadySetLaws
+pub mod SetMaskLaws
+pub mod BlockSetLaws
+pub mod LeftLaws
+pub mod MemberWalks
+pub mod AlongLaws
+pub mod VisitSetLaws
+pub mod LeaveSetLaws

@@ -42,6 +42,13 @@ madeFrom g p o =
     let x = symbolFrom g p (position o) in
     leb (position o) (lengthAt g p) and (nonterminal g x and ltb (attribute o) (attributes g x))
 
+-- all of them as sets
+unfoldable pub visitsFrom : List ℕ → List ℕ → ℕ → ℕ
+visitsFrom g s p = collect 64 (λ b. visitFrom g s p b)
+
+unfoldable pub occurrencesFrom : List ℕ → ℕ → ℕ
+occurrencesFrom g p = collect 64 (λ o. madeFrom g p o)
+
 -- "v at most 5", of the symbols of the rule at word p
 abbrev pub Few : List ℕ → ℕ → List ℕ → Type 0
 Few g p s = (i : ℕ) → i ≤ lengthAt g p → visits s (symbolFrom g p i) ≤ 5

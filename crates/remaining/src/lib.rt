@@ -102,7 +102,7 @@ fn all_visits(words: &[u16], p: usize, sets: &[u16]) -> u64
     requires { ⌜ p < 65536 ⌝ }
     requires { ⌜ places.Shaped (now words) p ⌝ }
     requires { ⌜ masks.Few (now words) p (now sets) ⌝ }
-    ensures { λ r. ⌜ r ≡ bit.collect 64 (λ b. masks.visitFrom (now (words .entry)) (now (sets .entry)) p b) ⌝ }
+    ensures { λ r. ⌜ r ≡ masks.visitsFrom (now (words .entry)) (now (sets .entry)) p ⌝ }
 {
     let n = access::right_length(words, p);
     let mut visits = 0;
@@ -129,7 +129,7 @@ fn made_attributes(words: &[u16], x: usize) -> u64
 fn made_occurrences(words: &[u16], p: usize) -> u64
     requires { ⌜ p < 65536 ⌝ }
     requires { ⌜ places.Shaped (now words) p ⌝ }
-    ensures { λ r. ⌜ r ≡ bit.collect 64 (λ o. masks.madeFrom (now (words .entry)) p o) ⌝ }
+    ensures { λ r. ⌜ r ≡ masks.occurrencesFrom (now (words .entry)) p ⌝ }
 {
     let n = access::right_length(words, p);
     let mut made = 0;

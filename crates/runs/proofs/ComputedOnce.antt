@@ -11,7 +11,8 @@ use Rattle.basics.specs.Lists.{word}
 use Rattle.grammar.specs.Table.{rules, defining, position, attribute}
 use Rattle.grammar.proofs.AcceptedTable.{occurrence-fits}
 use Rattle.sequences.specs.Actions.{compute, decode}
-use Rattle.sequences.proofs.ActionLaws.{ActionIs, computes, visitsChild, leaves, decode-compute, compute-belongs}
+use Rattle.sequences.proofs.ActionNumbers.{decode-compute}
+use Rattle.sequences.proofs.ActionLaws.{ActionIs, computes, visitsChild, leaves, compute-belongs}
 use Rattle.trees.specs.Tree.{ruleOf, appliesRule, nodeAt}
 use Rattle.trees.specs.Definers.{DefinedAt, Definer, AttributeOf}
 use Rattle.trees.proofs.Cells.{cell-is, one-definer, definer, defined-occurs, defined-applies, occurrence-attribute, attribute-eight}
@@ -21,7 +22,8 @@ use Rattle.runs.specs.Balance.{Given, Balanced}
 use Rattle.runs.specs.Computing.{machineAt, OnTop, Computing, AboutTo}
 use Rattle.runs.proofs.SequenceCounts.{same-action, action-there}
 use Rattle.runs.proofs.Steps.{action-of, top-inside, top-applies}
-use Rattle.runs.proofs.Balance.{rule-known, top-left, top-action, after-balanced}
+use Rattle.runs.proofs.Balance.{rule-known, top-left, top-action}
+use Rattle.runs.proofs.BalanceKept.{after-balanced}
 use Rattle.runs.proofs.Moments.{moment, one-moment, before-total}
 
 module _ {g p t : List ℕ} {l : ℕ} (given : Given g p t l) (values : List ℤ) where

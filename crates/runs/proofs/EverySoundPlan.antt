@@ -32,7 +32,8 @@ use Rattle.runs.specs.Depth.{longestDown}
 use Rattle.runs.specs.Balance.{Given, times, Balanced}
 use Rattle.runs.specs.Computing.{machineAt, Computing, AboutTo, ComputedBefore, ExactlyOnce}
 use Rattle.runs.proofs.Steps.{top-inside, top-applies, no-node-twice}
-use Rattle.runs.proofs.Balance.{top-left, after-balanced}
+use Rattle.runs.proofs.Balance.{top-left}
+use Rattle.runs.proofs.BalanceKept.{after-balanced}
 use Rattle.runs.proofs.StepsCounted.{busy, empty-after, all-at-end}
 use Rattle.runs.proofs.TotalFits.{total-bound}
 use Rattle.runs.proofs.RunAnswers.{ran-done, ran-stopped}

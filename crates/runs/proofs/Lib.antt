@@ -2,12 +2,14 @@ pub mod Ranks
 pub mod SequenceCounts
 pub mod Steps
 pub mod Balance
+pub mod BalanceKept
 pub mod EveryNodeEnds
 pub mod StepsCounted
 pub mod TotalFits
 pub mod RunAnswers
 pub mod Moments
 pub mod ComputedOnce
+pub mod HandedOver
 pub mod AfterArguments
 pub mod ValuesWritten
 pub mod Solved

@@ -18,7 +18,7 @@ use Rattle.runs.specs.Totals.{total}
 use Rattle.runs.specs.Balance.{Given, Balanced}
 use Rattle.runs.specs.Computing.{machineAt, OnTop}
 use Rattle.runs.proofs.Steps.{all-zero, step-on, act-places, top-inside}
-use Rattle.runs.proofs.Balance.{after-balanced}
+use Rattle.runs.proofs.BalanceKept.{after-balanced}
 use Rattle.runs.proofs.StepsCounted.{all-at-end, empty-after}
 
 -- a machine with an empty stack stays as it is

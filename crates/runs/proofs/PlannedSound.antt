@@ -30,19 +30,11 @@ use Rattle.relations.proofs.Least.{ids-occurs}
 use Rattle.sets.proofs.Classes.{odd-synthesized}
 use Rattle.sequences.specs.Actions.{Action, compute, visit, leave, decode, belongs, isAction, makes, inheritedOf}
 use Rattle.sequences.specs.Order.{sequenceOf}
-use Rattle.sequences.proofs.Heights.{Orderly}
+use Rattle.sequences.proofs.OrderlyRules.{Orderly}
 use Rattle.sequences.specs.Paper.{Earlier}
-use Rattle.sequences.proofs.SequenceLaws.{
-  nothing-else,
-  each-once,
-  every-action,
-  handed-down,
-  handed-up,
-  visits-rise,
-  leaves-rise,
-  ended-by-last-leave,
-  arguments-first,
-}
+use Rattle.sequences.proofs.SequenceLaws.{nothing-else, each-once, every-action, handed-down, handed-up}
+use Rattle.sequences.proofs.VisitsRise.{visits-rise, leaves-rise, ended-by-last-leave}
+use Rattle.sequences.proofs.AvailableFirst.{arguments-first}
 use Rattle.sequences.proofs.PlannedSequences.{planned-short, orderly}
 use Rattle.plans.specs.Buffers.{over}
 use Rattle.plans.specs.Answer.{acceptedPlan}

@@ -15,16 +15,8 @@ use Rattle.grammar.specs.WellFormed.{WellFormed}
 use Rattle.sets.specs.Visits.{setNumber, lastSet, visits}
 use Rattle.sets.proofs.Visits.{highest-least, some-visit}
 use Rattle.sequences.specs.Actions.{Action, compute, visit, leave, none, numberOf, decode, belongs, isAction}
-use Rattle.sequences.proofs.ActionLaws.{
-  decode-number,
-  decode-injective,
-  action-below,
-  belongs-action,
-  belongs-visit,
-  belongs-leave,
-  visit-belongs,
-  leave-belongs,
-}
+use Rattle.sequences.proofs.ActionNumbers.{decode-number, decode-injective}
+use Rattle.sequences.proofs.ActionLaws.{action-below, belongs-action, belongs-visit, belongs-leave, visit-belongs, leave-belongs}
 use Rattle.plans.specs.Sequences.{sequenceLength, actionAt}
 use Rattle.runs.specs.Sound.{Before, RuleSound, Sound}
 use Rattle.runs.specs.Counts.{leaveNumber, visitNumber, leavesDone, visitsDone}

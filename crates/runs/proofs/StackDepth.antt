@@ -19,7 +19,7 @@ use Rattle.runs.specs.Depth.{PathDown, depthBelow, longestDown}
 use Rattle.runs.specs.Balance.{Given}
 use Rattle.runs.specs.Computing.{machineAt}
 use Rattle.runs.proofs.Steps.{top-inside, top-applies}
-use Rattle.runs.proofs.Balance.{after-balanced}
+use Rattle.runs.proofs.BalanceKept.{after-balanced}
 
 module _ (g t : List ℕ) where
   -- a node that applies a rule is one more than the deepest of its children

@@ -18,7 +18,8 @@ use Rattle.runs.specs.Automaton.{Machine, started, actionOf, step, after
 use Rattle.runs.specs.Totals.{totalUpTo, total}
 use Rattle.runs.specs.Balance.{Given, Balanced}
 use Rattle.runs.proofs.Steps.{all-zero, step-on, act-places, top-inside, top-applies}
-use Rattle.runs.proofs.Balance.{top-left, after-balanced}
+use Rattle.runs.proofs.Balance.{top-left}
+use Rattle.runs.proofs.BalanceKept.{after-balanced}
 use Rattle.runs.proofs.EveryNodeEnds.{every-node-ends}
 
 -- what the places of the first nodes that apply a rule add up to

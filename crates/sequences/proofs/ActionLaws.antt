@@ -1,29 +1,17 @@
--- Actions and their numbers: each action has one number and each number one action; a rule's actions are those that belong to it.
--- A rule has at most 104 of them: 64 computes, five visits of each of seven children, five leaves. Assumes nothing.
-use Prim.Native.Nat.{ℕ, suc, _+_, _*_, _-_, _/_, _%_, _≤_, _<_}
-use mathlib.Core.Path.{_≡_, refl, sym, _∙_, ap, subst, subst⁻¹}
-use mathlib.Core.Logic.{⊎-elim}
-use mathlib.Core.Bool.{Bool, not}
+-- The actions of a rule: which computes, visits and leaves belong to it, and that the list of their numbers has each of them once and rises. They
+-- are at most 104, since a symbol has at most five visits. Assumes nothing.
+use Prim.Native.Nat.{ℕ, _%_, _≤_, _<_}
+use mathlib.Core.Path.{_≡_, refl, subst, subst⁻¹}
+use mathlib.Core.Bool.{Bool}
 use mathlib.Core.List.{List}
 use native.Mathlib.Omega.{arith}
-use lib.Dec.{T, ltb, leb, ltb→lt, lt→ltb, leb→le, le→leb, eqb→eq, eqb-refl, not-T}
+use lib.Dec.{T, ltb, leb, lt→ltb, leb→le, le→leb}
 use lib.ListN.{length}
 use Rattle.basics.specs.Tests.{_and_, _or_, count}
 use Rattle.basics.specs.Lists.{member}
-use Rattle.basics.proofs.TestLaws.{
-  and-intro,
-  and-left,
-  and-right,
-  or-left,
-  or-right,
-  eq-T,
-  chosen,
-  passed-over,
-  below-or-not,
-  count-mono,
-}
+use Rattle.basics.proofs.TestLaws.{and-intro, and-left, and-right, or-left, or-right, count-mono}
 use Rattle.basics.proofs.ListLaws.{member-passing, passing-member}
-use Rattle.grammar.specs.Table.{rightLength, symbolOf, nonterminal, occurrence, inheritedAt, defining, position}
+use Rattle.grammar.specs.Table.{rightLength, symbolOf, nonterminal, defining}
 use Rattle.sets.specs.Visits.{visits}
 use Rattle.sequences.specs.Actions.{
   Action,
@@ -38,106 +26,9 @@ use Rattle.sequences.specs.Actions.{
   belongs,
   isAction,
   actionsOf,
-  visitAt,
-  inheritedOf,
-  synthesizedOf,
-  makes,
 }
 use Rattle.sequences.proofs.Rising.{Rising, rising-passing, length-passing}
-
--- the actions that have a number: occurrences below 64, children below 8, visits and leaves from 1 to 8
-abbrev pub InRange : Action → Type 0
-InRange (compute o) = o < 64
-InRange (visit i n) = (i < 8) × (1 ≤ n) × (n ≤ 8)
-InRange (leave n) = (1 ≤ n) × (n ≤ 8)
-InRange none = ⊥
-
--- a number that is not below another fails that test
-at-least : (n m : ℕ) → m ≤ n → T (not (ltb n m))
-at-least n m h = not-T (ltb n m) (λ t. omega (arith, ltb→lt n m t))
-
--- the action of a number, by its range: below 64 the computes
-pub decode-compute : (n : ℕ) → n < 64 → decode n ≡ compute n
-unfolding decode
-decode-compute n h = chosen (ltb n 64) _ _ (lt→ltb n 64 h)
-
--- 64 to 127: the visits, eight to a child
-pub decode-visit : (n : ℕ) → 64 ≤ n → n < 128 → decode n ≡ visit ((n - 64) / 8) (n % 8 + 1)
-unfolding decode
-decode-visit n h l =
-    passed-over (ltb n 64) _ _ (at-least n 64 (omega arith)) ∙ chosen (ltb n 128) _ _ (lt→ltb n 128 l)
-
--- 128 to 135: the leaves
-pub decode-leave : (n : ℕ) → 128 ≤ n → n < actionNumbers → decode n ≡ leave (n - 128 + 1)
-unfolding decode
-decode-leave n h l =
-    passed-over (ltb n 64) _ _ (at-least n 64 (omega arith))
-    ∙ (passed-over (ltb n 128) _ _ (at-least n 128 (omega arith)) ∙ chosen (ltb n 136) _ _ (lt→ltb n 136 l))
-
--- from 136 on: none
-pub decode-none : (n : ℕ) → actionNumbers ≤ n → decode n ≡ none
-unfolding decode
-decode-none n h =
-    passed-over (ltb n 64) _ _ (at-least n 64 (omega arith))
-    ∙ (passed-over (ltb n 128) _ _ (at-least n 128 (omega arith))
-    ∙ passed-over (ltb n 136) _ _ (at-least n 136 (omega arith)))
-
--- what the action of a number is, one case each
-pub data Decoded (n : ℕ) : Type 0 where
-  isCompute : (o : ℕ) → o < 64 → n ≡ numberOf (compute o) → decode n ≡ compute o → Decoded n
-  isVisit : (i m : ℕ) → i < 8 → 1 ≤ m → m ≤ 8 → n ≡ numberOf (visit i m) → decode n ≡ visit i m → Decoded n
-  isLeave : (m : ℕ) → 1 ≤ m → m ≤ 8 → n ≡ numberOf (leave m) → decode n ≡ leave m → Decoded n
-  isNone : actionNumbers ≤ n → decode n ≡ none → Decoded n
-
--- every number is one of them
-pub decoded : (n : ℕ) → Decoded n
-decoded n =
-    ⊎-elim (λ h. isCompute n h refl (decode-compute n h))
-    (λ h.
-    ⊎-elim
-    (λ l. isVisit ((n - 64) / 8) (n % 8 + 1) (omega arith) (omega arith) (omega arith) (omega arith) (decode-visit n h l))
-    (λ l.
-    ⊎-elim (λ k. isLeave (n - 128 + 1) (omega arith) (omega arith) (omega arith) (decode-leave n l k))
-    (λ k. isNone k (decode-none n k)) (below-or-not n 136))
-    (below-or-not n 128))
-    (below-or-not n 64)
-
--- the action of an action's number is that action
-pub decode-number : (a : Action) → InRange a → decode (numberOf a) ≡ a
-decode-number (compute o) h = decode-compute o h
-decode-number (visit i n) h =
-    let e : (64 + 8 * i + (n - 1) - 64) / 8 ≡ i = omega arith in
-    let f : (64 + 8 * i + (n - 1)) % 8 + 1 ≡ n = omega arith in
-    decode-visit (64 + 8 * i + (n - 1)) (omega arith) (omega arith)
-    ∙ (ap (λ (j : ℕ). visit j ((64 + 8 * i + (n - 1)) % 8 + 1)) e ∙ ap (λ (m : ℕ). visit i m) f)
-decode-number (leave n) h =
-    let e : 128 + (n - 1) - 128 + 1 ≡ n = omega arith in
-    decode-leave (128 + (n - 1)) (omega arith) (omega arith) ∙ ap (λ (m : ℕ). leave m) e
-decode-number none h = absurd h
-
--- a number below 136 is the number of its action
-pub number-decode : (n : ℕ) → n < actionNumbers → numberOf (decode n) ≡ n
-number-decode n h = go (decoded n)
-  where
-    go : Decoded n → numberOf (decode n) ≡ n
-    go (isCompute o l e d) = ap numberOf d ∙ sym e
-    go (isVisit i m l p q e d) = ap numberOf d ∙ sym e
-    go (isLeave m p q e d) = ap numberOf d ∙ sym e
-    go (isNone l d) = absurd (omega arith)
-
--- and its action is in range
-pub decode-range : (n : ℕ) → n < actionNumbers → InRange (decode n)
-decode-range n h = go (decoded n)
-  where
-    go : Decoded n → InRange (decode n)
-    go (isCompute o l e d) = subst⁻¹ (λ (a : Action). InRange a) d l
-    go (isVisit i m l p q e d) = subst⁻¹ (λ (a : Action). InRange a) d (l, p, q)
-    go (isLeave m p q e d) = subst⁻¹ (λ (a : Action). InRange a) d (p, q)
-    go (isNone l d) = absurd (omega arith)
-
--- two numbers below 136 with one action are one
-pub decode-injective : (m n : ℕ) → m < actionNumbers → n < actionNumbers → decode m ≡ decode n → m ≡ n
-decode-injective m n h l e = sym (number-decode m h) ∙ (ap numberOf e ∙ number-decode n l)
+use Rattle.sequences.proofs.ActionNumbers.{Decoded, isCompute, isVisit, isLeave, isNone, decoded}
 
 -- a visit that belongs to rule r
 pub record ChildVisit (g s : List ℕ) (r i n : ℕ) : Type 0 where
@@ -290,78 +181,3 @@ module _ (g s : List ℕ) (r : ℕ) (five : (x : ℕ) → visits s x ≤ 5) wher
         stands-104,
         count-mono actionNumbers (λ a. isAction g s r a) may-stand (λ a l t. action-stands a t),
       )
-
--- occurrence o is an attribute at position i, of visit n
-pub record OfVisit (g s : List ℕ) (r i n o : ℕ) : Type 0 where
-  pub occurs : T (occurrence g r o)
-  pub stands : position o ≡ i
-  pub visitIs : visitAt g s r o ≡ n
-
-module _ (g s : List ℕ) (r i n o : ℕ) where
-  -- o is an inherited attribute at position i, of visit n
-  pub inherited-of : T (inheritedOf g s r i n o) → OfVisit g s r i n o × T (inheritedAt g r o)
-  unfolding inheritedOf
-  inherited-of t =
-      let u = and-right _ _ t in
-      let v = and-right _ _ u in (
-        record { occurs = and-left _ _ t; stands = eqb→eq _ _ (and-left _ _ u); visitIs = eqb→eq _ _ (and-right _ _ v) },
-        and-left _ _ v,
-      )
-
-  -- and back
-  pub of-inherited : OfVisit g s r i n o → T (inheritedAt g r o) → T (inheritedOf g s r i n o)
-  unfolding inheritedOf
-  of-inherited w t =
-      and-intro _ _ (w .occurs) (and-intro _ _ (eq-T _ _ (w .stands)) (and-intro _ _ t (eq-T _ _ (w .visitIs))))
-
-  -- o is a synthesized attribute at position i, of visit n
-  pub synthesized-of : T (synthesizedOf g s r i n o) → OfVisit g s r i n o × T (not (inheritedAt g r o))
-  unfolding synthesizedOf
-  synthesized-of t =
-      let u = and-right _ _ t in
-      let v = and-right _ _ u in (
-        record { occurs = and-left _ _ t; stands = eqb→eq _ _ (and-left _ _ u); visitIs = eqb→eq _ _ (and-right _ _ v) },
-        and-left _ _ v,
-      )
-
-  -- and back
-  pub of-synthesized : OfVisit g s r i n o → T (not (inheritedAt g r o)) → T (synthesizedOf g s r i n o)
-  unfolding synthesizedOf
-  of-synthesized w t =
-      and-intro _ _ (w .occurs) (and-intro _ _ (eq-T _ _ (w .stands)) (and-intro _ _ t (eq-T _ _ (w .visitIs))))
-
-module _ (g s : List ℕ) (r : ℕ) where
-  -- a compute makes its own occurrence available
-  pub makes-compute : (p o : ℕ) → T (makes g s r (compute p) o) → T (defining g r o) × (p ≡ o)
-  unfolding makes
-  makes-compute p o t = (and-left _ _ t, eqb→eq _ _ (and-right _ _ t))
-
-  -- and every defining occurrence has its compute
-  pub compute-makes : (o : ℕ) → T (defining g r o) → T (makes g s r (compute o) o)
-  unfolding makes
-  compute-makes o t = and-intro _ _ t (eqb-refl o)
-
-  -- a visit makes the child's synthesized attributes of that visit available
-  pub makes-visit : (i n o : ℕ) → T (makes g s r (visit i n) o) → T (nonterminal g (symbolOf g r i)) × T (synthesizedOf g s r i n o)
-  unfolding makes
-  makes-visit i n o t = (and-left _ _ t, and-right _ _ t)
-
-  -- all of them
-  pub visit-makes : (i n o : ℕ) → T (nonterminal g (symbolOf g r i)) → T (synthesizedOf g s r i n o) → T (makes g s r (visit i n) o)
-  unfolding makes
-  visit-makes i n o t u = and-intro _ _ t u
-
-  -- leave n makes the left side's inherited attributes of visit n + 1 available
-  pub makes-leave : (n o : ℕ) → T (makes g s r (leave n) o) → T (inheritedOf g s r 0 (suc n) o)
-  unfolding makes
-  makes-leave n o t = t
-
-  -- all of them
-  pub leave-makes : (n o : ℕ) → T (inheritedOf g s r 0 (suc n) o) → T (makes g s r (leave n) o)
-  unfolding makes
-  leave-makes n o t = t
-
-  -- none makes nothing available
-  pub makes-none : (o : ℕ) → T (makes g s r none o) → ⊥
-  unfolding makes
-  makes-none o t = t

@@ -1,7 +1,7 @@
 -- An action is always ready: of any actions of a rule one of least height follows none of the others.
--- So the construction never stops with actions left, and refusal 11 never applies. Assumes nothing.
+-- So the sequence never stops with actions left, and refusal 11 never applies. Assumes nothing.
 use Prim.Native.Nat.{ℕ, _≤_}
-use mathlib.Core.Path.{_≡_, refl}
+use mathlib.Core.Path.{_≡_, refl, sym, _∙_, ap}
 use mathlib.Core.Bool.{false}
 use mathlib.Core.List.{List}
 use native.Mathlib.Omega.{arith}
@@ -13,9 +13,12 @@ use Rattle.sequences.specs.Actions.{decode, isAction, actionsOf}
 use Rattle.sequences.specs.Follows.{follows}
 use Rattle.sequences.specs.Order.{ready, sequenceOf, isStuck}
 use Rattle.sequences.proofs.Rising.{lowest-member}
-use Rattle.sequences.proofs.OrderLaws.{ready-intro, order-all}
+use Rattle.sequences.proofs.TieLaws.{ready-intro}
+use Rattle.sequences.proofs.OrderLaws.{order-all}
 use Rattle.sequences.proofs.ActionLaws.{actions-member, actions-rise, actions-below}
-use Rattle.sequences.proofs.Heights.{Orderly, height, follows-higher}
+use Rattle.sequences.proofs.OrderlyRules.{Orderly}
+use Rattle.sequences.proofs.SequenceTie.{sequence-built}
+use Rattle.sequences.proofs.Heights.{height, follows-higher}
 
 module _ (g ids s : List ℕ) (r : ℕ) (h : Orderly g ids s r) where
   -- some action of every list of the rule's actions is ready
@@ -31,9 +34,9 @@ module _ (g ids s : List ℕ) (r : ℕ) (h : Orderly g ids s r) where
 
   -- the sequence has all of the rule's actions
   pub sequence-whole : length (sequenceOf g ids s r) ≡ length (actionsOf g s r)
-  unfolding sequenceOf
   sequence-whole =
-      order-all (λ a b. follows g ids s r a b) (length (actionsOf g s r)) (actionsOf g s r) refl (actions-rise g s r) (actions-below g s r)
+      ap (λ (out : List ℕ). length out) (sym (sequence-built g ids s r))
+      ∙ order-all (λ a b. follows g ids s r a b) (length (actionsOf g s r)) (actionsOf g s r) refl (actions-rise g s r) (actions-below g s r)
       (λ xs l f. always-ready xs l (λ a m. actions-member g s r a (f a m)))
 
   -- 11, "no action is ready and some remain", never applies

@@ -14,7 +14,8 @@ use Rattle.sets.specs.Visits.{visits}
 use Rattle.order.specs.Computed.{edp}
 use Rattle.sequences.specs.Actions.{Action, compute, visit, leave, decode, makes, inheritedOf, synthesizedOf}
 use Rattle.sequences.specs.Follows.{linked, beforeVisit, beforeLeave, besides, follows}
-use Rattle.sequences.proofs.ActionLaws.{decode-compute, compute-makes}
+use Rattle.sequences.proofs.ActionNumbers.{decode-compute}
+use Rattle.sequences.proofs.MakesLaws.{compute-makes}
 
 -- an EDP arc links what two actions make available
 pub record Linked (g ids s : List ℕ) (r : ℕ) (later earlier : Action) : Type 0 where

@@ -26,6 +26,8 @@ use Rattle.sequences.proofs.ActionLaws.{
   leave-belongs,
   belongs-leave,
   belongs-none,
+}
+use Rattle.sequences.proofs.MakesLaws.{
   inherited-of,
   of-inherited,
   synthesized-of,
@@ -38,7 +40,7 @@ use Rattle.sequences.proofs.ActionLaws.{
   leave-makes,
   makes-none,
 }
-use Rattle.sequences.proofs.ActionLaws as words
+use Rattle.sequences.proofs.MakesLaws as words
 
 module _ (g s : List ℕ) (set : ℕ → ℕ → ℕ) (w : WellFormed g)
     (same : (x a : ℕ) → x < symbols g → a < 8 → setNumber s x a ≡ set x a) (r : ℕ) (counts : r < rules g) where

@@ -40,7 +40,8 @@ use Rattle.sequences.specs.Follows.{beforeVisit, beforeLeave, besides, f
 use Rattle.sequences.specs.Order.{sequenceOf}
 use Rattle.sequences.specs.Paper.{Belongs, Follows, Earlier, May, TieRule, Sequence, LeftOut}
 use Rattle.sequences.specs.Paper as paper
-use Rattle.sequences.proofs.ActionLaws.{decode-injective, number-decode, member-actions, actions-member, actions-below}
+use Rattle.sequences.proofs.ActionNumbers.{decode-injective, number-decode}
+use Rattle.sequences.proofs.ActionLaws.{member-actions, actions-member, actions-below}
 use Rattle.sequences.proofs.FollowsLaws.{
   follows-cases,
   follows-linked,
@@ -50,7 +51,8 @@ use Rattle.sequences.proofs.FollowsLaws.{
   leave-after-compute,
   last-leave-after,
 }
-use Rattle.sequences.proofs.SequenceLaws.{sequence-tie, sequence-one, every-action}
+use Rattle.sequences.proofs.SequenceTie.{sequence-tie, sequence-one}
+use Rattle.sequences.proofs.SequenceLaws.{every-action}
 use Rattle.sequences.proofs.PlannedSequences.{orderly, planned-short}
 use Rattle.sequences.proofs.PaperActions.{action-paper, inherited-paper, synthesized-paper, makes-forth, makes-back, left-visits}
 

@@ -23,7 +23,7 @@ use Rattle.order.proofs.ExactEdp.{edp-exact}
 use Rattle.order.proofs.PaperSets.{set-placed, ids-down}
 use Rattle.sequences.specs.Actions.{mostActions}
 use Rattle.sequences.specs.Order.{sequenceOf, isStuck}
-use Rattle.sequences.proofs.Heights.{Placed, Orderly}
+use Rattle.sequences.proofs.OrderlyRules.{Placed, Orderly}
 use Rattle.sequences.proofs.AlwaysReady.{never-stuck}
 use Rattle.sequences.proofs.SequenceLaws.{sequence-short}
 

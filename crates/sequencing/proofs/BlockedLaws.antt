@@ -13,7 +13,7 @@ use Rattle.bits.specs.Bit.{hasb, remove, union, minus, lowest, First}
 use Rattle.bits.proofs.BitLaws.{bit-has}
 use Rattle.bits.proofs.MemberLaws.{none-left, union-cases, union-left, union-right, minus-both, both-minus}
 use Rattle.bits.proofs.RestLaws.{rest-of}
-use Rattle.remaining.proofs.ReadySetLaws.{was-left, gone, left-less}
+use Rattle.remaining.proofs.MemberWalks.{was-left, gone, left-less}
 use Rattle.sequencing.specs.Blocked.{Closed, Blocked}
 
 -- the rows of those that are done

@@ -1,6 +1,13 @@
 pub mod Makers
-pub mod ReadyLaws
+pub mod ReadyComputes
+pub mod ReadyVisits
+pub mod ReadyLeaves
 pub mod OrderSteps
+pub mod GivenLaws
+pub mod ComputesTaken
+pub mod VisitsTaken
+pub mod LeaveTests
+pub mod LeavesTaken
 pub mod NextLaws
 pub mod BlockedLaws
 pub mod StartLaws

@@ -17,22 +17,10 @@ use Rattle.sets.specs.Visits.{visits, visitOfSet, visitOf}
 use Rattle.sets.proofs.Visits.{number-to-last}
 use Rattle.order.specs.Computed.{edp}
 use Rattle.sequences.specs.Actions.{Action, decode, isAction, visitAt, inheritedOf, synthesizedOf, makes}
-use Rattle.sequences.proofs.ActionLaws.{
-  ActionIs,
-  computes,
-  visitsChild,
-  leaves,
-  action-is,
-  inherited-of,
-  synthesized-of,
-  of-inherited,
-  of-synthesized,
-  makes-compute,
-  makes-visit,
-  makes-leave,
-}
+use Rattle.sequences.proofs.ActionLaws.{ActionIs, computes, visitsChild, leaves, action-is}
+use Rattle.sequences.proofs.MakesLaws.{inherited-of, synthesized-of, of-inherited, of-synthesized, makes-compute, makes-visit, makes-leave}
 use Rattle.grammar.proofs.OccurrenceLaws.{defining-left, defining-child}
-use Rattle.sequences.proofs.Heights.{
+use Rattle.sequences.proofs.OrderlyRules.{
   Orderly,
   setAt,
   symbol-fits,
@@ -141,22 +129,22 @@ module _ (g ids s : List ℕ) (r : ℕ) where
         (or-cases _ _ t)
 
     -- no set is higher than twice the visits
-    pub set-high : (o : ℕ) → setAt g ids s r o ≤ 2 * visits s (symbolOf g r (position o))
+    pub set-high : (o : ℕ) → setAt g s r o ≤ 2 * visits s (symbolOf g r (position o))
     unfolding setAt visits
     set-high o = omega (arith, number-to-last s (symbolOf g r (position o)) (attribute o) (omega arith))
 
     -- the class by the set
-    even-set-inherited : (o : ℕ) → Attribute g r o → setAt g ids s r o % 2 ≡ 0 → T (inheritedAt g r o)
+    even-set-inherited : (o : ℕ) → Attribute g r o → setAt g s r o % 2 ≡ 0 → T (inheritedAt g r o)
     even-set-inherited o w e =
         ⊎-elim (λ t. t) (λ t. absurd (omega (arith, set-odd g ids s r h o (w .occurs) (w .there) t))) (tested (inheritedAt g r o))
 
-    odd-set-synthesized : (o : ℕ) → Attribute g r o → setAt g ids s r o % 2 ≡ 1 → T (not (inheritedAt g r o))
+    odd-set-synthesized : (o : ℕ) → Attribute g r o → setAt g s r o % 2 ≡ 1 → T (not (inheritedAt g r o))
     odd-set-synthesized o w e =
         not-T (inheritedAt g r o) (λ t. omega (arith, set-even g ids s r h o (w .occurs) (w .there) t))
 
     -- the inherited attributes of visit n are those of its even set
     pub even-of-visit : (i n o : ℕ) → Attribute g r o → position o ≡ i → 1 ≤ n → n ≤ visits s (symbolOf g r i)
-        → setAt g ids s r o ≡ 2 * (visits s (symbolOf g r i) + 1 - n) → T (inheritedOf g s r i n o)
+        → setAt g s r o ≡ 2 * (visits s (symbolOf g r i) + 1 - n) → T (inheritedOf g s r i n o)
     unfolding visitAt setAt visitOf visitOfSet
     even-of-visit i n o w p l m e =
         let f : visits s (symbolOf g r (position o)) ≡ visits s (symbolOf g r i) = ap (λ (j : ℕ). visits s (symbolOf g r j)) p in
@@ -164,7 +152,7 @@ module _ (g ids s : List ℕ) (r : ℕ) where
 
     -- the synthesized ones those of its odd set
     pub odd-of-visit : (i n o : ℕ) → Attribute g r o → position o ≡ i → 1 ≤ n → n ≤ visits s (symbolOf g r i)
-        → setAt g ids s r o ≡ 2 * (visits s (symbolOf g r i) + 1 - n) - 1 → T (synthesizedOf g s r i n o)
+        → setAt g s r o ≡ 2 * (visits s (symbolOf g r i) + 1 - n) - 1 → T (synthesizedOf g s r i n o)
     unfolding visitAt setAt visitOf visitOfSet
     odd-of-visit i n o w p l m e =
         let f : visits s (symbolOf g r (position o)) ≡ visits s (symbolOf g r i) = ap (λ (j : ℕ). visits s (symbolOf g r j)) p in
@@ -172,16 +160,16 @@ module _ (g ids s : List ℕ) (r : ℕ) where
 
     -- and back
     pub visit-even : (i n o : ℕ) → T (nonterminal g (symbolOf g r i)) → T (inheritedOf g s r i n o)
-        → setAt g ids s r o ≡ 2 * (visits s (symbolOf g r i) + 1 - n)
+        → setAt g s r o ≡ 2 * (visits s (symbolOf g r i) + 1 - n)
     visit-even i n o there t = let v = inherited-of g s r i n o t in set-inherited g ids s r h i n o (v .0) there (v .1)
 
     pub visit-odd : (i n o : ℕ) → T (nonterminal g (symbolOf g r i)) → T (synthesizedOf g s r i n o)
-        → setAt g ids s r o ≡ 2 * (visits s (symbolOf g r i) + 1 - n) - 1
+        → setAt g s r o ≡ 2 * (visits s (symbolOf g r i) + 1 - n) - 1
     visit-odd i n o there t = let v = synthesized-of g s r i n o t in set-synthesized g ids s r h i n o (v .0) there (v .1)
 
     -- the left side's inherited attributes of visit 1 come from the start: no action makes them available
     pub first-unmade : (e o : ℕ) → T (isAction g s r e) → T (makes g s r (decode e) o) → position o ≡ 0
-        → setAt g ids s r o ≡ 2 * visits s (symbolOf g r 0) → ⊥
+        → setAt g s r o ≡ 2 * visits s (symbolOf g r 0) → ⊥
     first-unmade e o a t p k = go (action-is g s r e a)
       where
         made : Attribute g r o

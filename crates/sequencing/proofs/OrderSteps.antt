@@ -17,7 +17,8 @@ use Rattle.sequences.specs.Follows.{follows}
 use Rattle.sequences.specs.Order.{firstReady, order}
 use Rattle.sequences.proofs.ActionLaws.{action-below}
 use Rattle.sequences.proofs.Rising.{rising-passing, length-without}
-use Rattle.sequences.proofs.OrderLaws.{First, found, nothing, ready-intro, ready-use, first-ready}
+use Rattle.sequences.proofs.TieLaws.{ready-intro, ready-use}
+use Rattle.sequences.proofs.OrderLaws.{Picked, found, nothing, first-ready}
 use Rattle.remaining.specs.Remaining.{remaining}
 use Rattle.sequencing.specs.Going.{Going, Taken}
 use Rattle.remaining.proofs.RemainsLaws.{Less}
@@ -76,7 +77,7 @@ module _ (after : ℕ → ℕ → Bool) (before left : ℕ → Bool) (a : ℕ) (
     (lowest : (c : ℕ) → c < a → T (before c) → ((b : ℕ) → T (before b) → T (after c b) → ⊥) → ⊥)
     (less : Less before left a) where
   -- the first ready one is a
-  first-is : (m : ℕ) → First after (remaining before) (remaining before) 136 m → m ≡ a
+  first-is : (m : ℕ) → Picked after (remaining before) (remaining before) 136 m → m ≡ a
   unfolding remaining
   first-is m (found k t f) =
       ⊎-elim

@@ -24,22 +24,13 @@ use Rattle.sets.specs.Visits.{setNumber, visits}
 use Rattle.access.specs.ByPlace.{symbolFrom}
 use Rattle.access.proofs.Accessors.{definings-at-rule}
 use Rattle.sequences.specs.Actions.{compute, visit, leave, decode, actionNumbers, isAction, actionsOf, inheritedOf, makes}
-use Rattle.sequences.proofs.ActionLaws.{
-  ChildVisit,
-  LeftLeave,
-  decode-compute,
-  decode-number,
-  decode-leave,
-  belongs-compute,
-  belongs-visit,
-  belongs-leave,
-  action-belongs,
-  action-below,
-  inherited-of,
-}
+use Rattle.sequences.proofs.ActionNumbers.{decode-compute, decode-number, decode-leave}
+use Rattle.sequences.proofs.ActionLaws.{ChildVisit, LeftLeave, belongs-compute, belongs-visit, belongs-leave, action-belongs, action-below}
+use Rattle.sequences.proofs.MakesLaws.{inherited-of}
 use Rattle.sequences.proofs.Rising.{length-passing}
-use Rattle.sequences.proofs.Heights.{setAt, fits, left-nonterminal}
-use Rattle.sequences.proofs.SequenceLaws.{maker, compute-stands, visit-stands, leave-stands}
+use Rattle.sequences.proofs.OrderlyRules.{setAt, fits, left-nonterminal}
+use Rattle.sequences.proofs.SequenceLaws.{compute-stands, visit-stands, leave-stands}
+use Rattle.sequences.proofs.AvailableFirst.{maker}
 use Rattle.sequencing.specs.Given.{Given}
 use Rattle.remaining.specs.Remaining.{remains, remaining}
 use Rattle.sequencing.specs.Going.{Going}
@@ -48,7 +39,7 @@ use Rattle.sequencing.proofs.Makers.{Attribute, made-attribute, visit-e
 use Rattle.sequencing.proofs.OrderSteps.{passing-same}
 use Rattle.remaining.proofs.RemainsLaws.{remains-compute, remains-visit, remains-leave, Kind, aCompute, aVisit, aLeave, kind-of}
 use Rattle.remaining.proofs.MaskLaws.{in-set, set-in}
-use Rattle.sequencing.proofs.NextLaws.{orderly-rule, five-visits, symbol-is, set-from, visits-from}
+use Rattle.sequencing.proofs.GivenLaws.{orderly-rule, five-visits, symbol-is, set-from, visits-from}
 
 -- how many pass in two stretches
 count-add : (a b : ℕ) (f : ℕ → Bool) → count (a + b) f ≡ count a f + count b (λ i. f (a + i))
@@ -186,7 +177,7 @@ module _ (g s rows : List ℕ) (p r : ℕ) (given : Given g s rows p r) (c v l w
 
   -- the left side's inherited ones of visit 1
   from-first : (o : ℕ) → T (hasb o (inheritedMask s (symbolFrom g p 0) 1))
-      → (position o ≡ 0) × (setAt g (idsOf g) s r o ≡ 2 * visits s (symbolOf g r 0))
+      → (position o ≡ 0) × (setAt g s r o ≡ 2 * visits s (symbolOf g r 0))
   unfolding inheritedMask
   from-first o t =
       let k = in-set s (symbolFrom g p 0) (2 * (visits s (symbolFrom g p 0) + 1 - 1)) o t in

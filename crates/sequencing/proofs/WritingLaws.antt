@@ -25,7 +25,8 @@ use Rattle.remaining.specs.Remaining.{remains, remaining}
 use Rattle.sequencing.specs.Going.{Going, Taken}
 use Rattle.remaining.specs.RuleSets.{Few, Children, Along, Started}
 use Rattle.remaining.proofs.RemainsLaws.{remains-visit}
-use Rattle.sequencing.proofs.NextLaws.{five-visits, children-left}
+use Rattle.sequencing.proofs.GivenLaws.{five-visits}
+use Rattle.sequencing.proofs.NextLaws.{children-left}
 use Rattle.sequencing.proofs.StartLaws.{starts-going, starts-all, starts-count}
 
 module _ (g s rows : List ℕ) (p r : ℕ) where

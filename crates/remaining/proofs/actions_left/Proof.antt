@@ -1,6 +1,5 @@
 -- `remaining::actions_left` meets its contract: a set of numbers below 64 has at most 64 members, so the sum fits. Assumes nothing.
-use native.Mathlib.Omega.{arith}
-use Rattle.remaining.proofs.CodeLaws.{count-fits, counts-fit}
+use Rattle.remaining.proofs.LeftLaws.{two-fit, three-few, three-fit, counted}
 use borrow.Author.Needs.{needs}
 use Rattle.remaining.proofs.actions_left.Statement.{statement}
 use Rattle.remaining.proofs.actions_left.Tie as tie
@@ -12,37 +11,16 @@ count-requires-2 : tie.Need-count-requires-2
 count-requires-2 c κs = search needs
 
 add-result : tie.Need-add-result
-add-result c =
-    record {
-      fits =
-          omega (
-            arith,
-            count-fits (c .before .before .args .state .computes) (c .before .count .result) (c .before .count .ensures),
-            count-fits (c .before .before .args .state .visits) (c .count2 .result) (c .count2 .ensures),
-          );
-    }
+add-result c = search two-fit
 
 count-requires-3 : tie.Need-count-requires-3
 count-requires-3 c κs = search needs
 
 add-result-2 : tie.Need-add-result-2
-add-result-2 c =
-    record {
-      fits = omega (
-        arith,
-        counts-fit (c .before .before .before .args .state .computes) (c .before .before .before .args .state
-            .visits) (c .before .before .before .args .state .leaves) _ _ _ (c .before .before .count .ensures) (c .before .count2 .ensures) (c
-            .count3 .ensures),
-      );
-    }
+add-result-2 c = search three-fit
 
 returns : tie.Need-returns
-returns c = (
-  omega (arith, (c .before .before .count .ensures), (c .before .count2 .ensures), (c .count3 .ensures)),
-  counts-fit (c .before .before
-      .before .args .state .computes) (c .before .before .before .args .state .visits) (c .before .before .before .args .state .leaves) _ _ _
-      (c .before .before .count .ensures) (c .before .count2 .ensures) (c .count3 .ensures),
-)
+returns c = (search counted, search three-few)
 
 pub actions-left-spec : {M : Type 1} → statement M
 actions-left-spec =

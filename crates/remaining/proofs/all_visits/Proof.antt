@@ -1,9 +1,8 @@
 -- `remaining::all_visits` meets its contract. After i turns the set holds the visits of children 1 to i: each child has eight bits of its own,
 -- and the left side, which is no child, has none. Assumes nothing.
-use native.Mathlib.Omega.{arith}
 use borrow.Author.Needs.{needs}
 use Prim.Native.Nat.{_-_}
-use Rattle.remaining.proofs.CodeLaws.{Calling, calling-start, calling-few, calling-place, calling-turn, calling-finish}
+use Rattle.remaining.proofs.BlockSetLaws.{Calling, calling-start, calling-few, calling-block, calling-place, calling-turn, calling-finish}
 use Rattle.remaining.proofs.all_visits.Statement.{statement}
 use Rattle.remaining.proofs.all_visits.Tie as tie
 
@@ -35,9 +34,7 @@ mul-raised : tie.Need-mul-raised Inv-loop μ-loop
 mul-raised c = search needs
 
 raised-requires : tie.Need-raised-requires Inv-loop μ-loop
-raised-requires c κs =
-    calling-place _ _ _ _ _ _ _ _ (c .before .before .before .loop .inv) (c .before .before .loop-test .taken) (c .before .symbol-of .ensures
-    .0) (c .child-visits .ensures)
+raised-requires c κs = (search calling-block, search calling-place)
 
 union-requires : tie.Need-union-requires Inv-loop μ-loop
 union-requires c κs = search needs
@@ -52,10 +49,7 @@ loop-again : tie.Need-loop-again Inv-loop μ-loop
 loop-again c = search (calling-turn, needs)
 
 returns : tie.Need-returns Inv-loop μ-loop
-returns c =
-    let start = c .before .before .before .before in
-    calling-finish (start .before .args .words .now) (start .before .args .sets .now) (start .before .args .p) _ (c .before .loop .visits)
-    (c .before .loop .i) (c .before .loop .inv) (omega arith)
+returns c = search calling-finish
 
 pub all-visits-spec : {M : Type 1} → statement M
 all-visits-spec =

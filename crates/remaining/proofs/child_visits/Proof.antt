@@ -1,7 +1,7 @@
 -- `remaining::child_visits` meets its contract: a nonterminal has the visits below v, which is at most 5, and a terminal none.
 -- Assumes nothing.
 use borrow.Author.Needs.{needs}
-use Rattle.remaining.proofs.CodeLaws.{child-yes, child-no}
+use Rattle.remaining.proofs.BlockSetLaws.{child-yes, child-no}
 use Rattle.remaining.proofs.child_visits.Statement.{statement}
 use Rattle.remaining.proofs.child_visits.Tie as tie
 

@@ -1,6 +1,6 @@
 -- `remaining::inherited_of` meets its contract: visit n has the even set 2 (v + 1 - n). Assumes nothing.
 use borrow.Author.Needs.{needs}
-use Rattle.remaining.proofs.CodeLaws.{inherited-by}
+use Rattle.remaining.proofs.SetMaskLaws.{inherited-by}
 use Rattle.remaining.proofs.inherited_of.Statement.{statement}
 use Rattle.remaining.proofs.inherited_of.Tie as tie
 

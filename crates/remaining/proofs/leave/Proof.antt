@@ -1,6 +1,6 @@
 -- `remaining::leave` meets its contract: the leave is taken out, and what the parent hands down next no longer waits. Assumes nothing.
 use borrow.Author.Needs.{needs}
-use Rattle.remaining.proofs.CodeLaws.{down-by, down-inside}
+use Rattle.remaining.proofs.LeftLaws.{down-by, down-inside}
 use Rattle.remaining.proofs.leave.Statement.{statement}
 use Rattle.remaining.proofs.leave.Tie as tie
 

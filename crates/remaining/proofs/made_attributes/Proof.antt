@@ -1,6 +1,6 @@
 -- `remaining::made_attributes` meets its contract: a nonterminal has all its attributes, a terminal none. Assumes nothing.
 use borrow.Author.Needs.{needs}
-use Rattle.remaining.proofs.CodeLaws.{made-yes, made-no}
+use Rattle.remaining.proofs.BlockSetLaws.{made-yes, made-no}
 use Rattle.remaining.proofs.made_attributes.Statement.{statement}
 use Rattle.remaining.proofs.made_attributes.Tie as tie
 

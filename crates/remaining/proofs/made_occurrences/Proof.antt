@@ -1,9 +1,8 @@
 -- `remaining::made_occurrences` meets its contract. After i turns the set holds the occurrences of nonterminals at the positions below i.
 -- Assumes nothing.
-use native.Mathlib.Omega.{arith}
 use borrow.Author.Needs.{needs}
 use Prim.Native.Nat.{_-_}
-use Rattle.remaining.proofs.CodeLaws.{Making, making-start, making-small, making-place, making-turn, making-finish}
+use Rattle.remaining.proofs.BlockSetLaws.{Making, making-start, making-small, making-block, making-place, making-turn, making-finish}
 use Rattle.remaining.proofs.made_occurrences.Statement.{statement}
 use Rattle.remaining.proofs.made_occurrences.Tie as tie
 
@@ -32,9 +31,7 @@ mul-raised : tie.Need-mul-raised Inv-loop μ-loop
 mul-raised c = search needs
 
 raised-requires : tie.Need-raised-requires Inv-loop μ-loop
-raised-requires c κs =
-    making-place _ _ _ _ _ _ _ (c .before .before .before .loop .inv) (c .before .before .loop-test .taken) (c .before .symbol-of .ensures
-    .0) (c .made-attributes .ensures)
+raised-requires c κs = (search making-block, search making-place)
 
 union-requires : tie.Need-union-requires Inv-loop μ-loop
 union-requires c κs = search needs
@@ -49,9 +46,7 @@ loop-again : tie.Need-loop-again Inv-loop μ-loop
 loop-again c = search (making-turn, needs)
 
 returns : tie.Need-returns Inv-loop μ-loop
-returns c =
-    making-finish (c .before .before .before .before .args .words .now) (c .before .before .before .before .args .p) _ (c .before .loop
-    .made) (c .before .loop .i) (c .before .loop .inv) (omega arith)
+returns c = search making-finish
 
 pub made-occurrences-spec : {M : Type 1} → statement M
 made-occurrences-spec =

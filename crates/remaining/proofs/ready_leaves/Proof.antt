@@ -1,6 +1,6 @@
 -- `remaining::ready_leaves` meets its contract: only the lowest leave can be ready, and it is where its test holds. Assumes nothing.
 use borrow.Author.Needs.{needs}
-use Rattle.remaining.proofs.ReadySetLaws.{no-leaves, last-leaves, next-leaves, leave-inside}
+use Rattle.remaining.proofs.LeaveSetLaws.{no-leaves, last-leaves, next-leaves, leave-inside}
 use Rattle.remaining.proofs.ready_leaves.Statement.{statement}
 use Rattle.remaining.proofs.ready_leaves.Tie as tie
 

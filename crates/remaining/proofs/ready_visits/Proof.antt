@@ -1,7 +1,7 @@
 -- `remaining::ready_visits` meets its contract. The lowest of what is left is the next visit of its child, so with it all of the child's are
 -- done; the measure is what is left of the visits, as a number. Assumes nothing.
 use borrow.Author.Needs.{needs}
-use Rattle.remaining.proofs.ReadySetLaws.{Gathering, gathering-start, gathering-turn, gathering-less, gathering-finish}
+use Rattle.remaining.proofs.VisitSetLaws.{Gathering, gathering-start, gathering-turn, gathering-less, gathering-finish}
 use Rattle.remaining.proofs.ready_visits.Statement.{statement}
 use Rattle.remaining.proofs.ready_visits.Tie as tie
 

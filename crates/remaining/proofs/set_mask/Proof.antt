@@ -2,7 +2,7 @@
 -- Assumes nothing.
 use borrow.Author.Needs.{needs}
 use Prim.Native.Nat.{_-_}
-use Rattle.remaining.proofs.CodeLaws.{Masking, masking-start, masking-turn, masking-finish}
+use Rattle.remaining.proofs.SetMaskLaws.{Masking, masking-start, masking-turn, masking-finish}
 use Rattle.remaining.proofs.set_mask.Statement.{statement}
 use Rattle.remaining.proofs.set_mask.Tie as tie
 

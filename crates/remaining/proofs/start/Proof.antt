@@ -1,6 +1,6 @@
 -- `remaining::start` meets its contract: each of the four sets is what its call answers. Assumes nothing.
 use borrow.Author.Needs.{needs}
-use Rattle.remaining.proofs.CodeLaws.{started-by, few-leaves}
+use Rattle.remaining.proofs.LeftLaws.{started-by, few-leaves}
 use Rattle.remaining.proofs.start.Statement.{statement}
 use Rattle.remaining.proofs.start.Tie as tie
 

@@ -1,6 +1,6 @@
 -- `remaining::synthesized_of` meets its contract: visit n has the odd set below its even one. Assumes nothing.
 use borrow.Author.Needs.{needs}
-use Rattle.remaining.proofs.CodeLaws.{synthesized-by}
+use Rattle.remaining.proofs.SetMaskLaws.{synthesized-by}
 use Rattle.remaining.proofs.synthesized_of.Statement.{statement}
 use Rattle.remaining.proofs.synthesized_of.Tie as tie
 

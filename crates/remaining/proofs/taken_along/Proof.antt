@@ -2,7 +2,8 @@
 -- of the visits, as a number. Assumes nothing.
 use Rattle.bits.proofs.RestLaws.{rest-of}
 use borrow.Author.Needs.{needs}
-use Rattle.remaining.proofs.ReadySetLaws.{Filling, filling-start, filling-child, filling-turn, filling-finish, along-small, left-less}
+use Rattle.remaining.proofs.MemberWalks.{left-less}
+use Rattle.remaining.proofs.AlongLaws.{Filling, filling-start, filling-child, filling-turn, filling-finish, along-small}
 use Rattle.remaining.proofs.taken_along.Statement.{statement}
 use Rattle.remaining.proofs.taken_along.Tie as tie
 

@@ -1,6 +1,6 @@
 -- `remaining::visit` meets its contract: the visit is taken out, and what it hands up no longer waits. Assumes nothing.
 use borrow.Author.Needs.{needs}
-use Rattle.remaining.proofs.CodeLaws.{up-by, up-small, up-inside}
+use Rattle.remaining.proofs.LeftLaws.{up-by, up-small, up-inside}
 use Rattle.remaining.proofs.visit.Statement.{statement}
 use Rattle.remaining.proofs.visit.Tie as tie
 

@@ -12,7 +12,7 @@ abbrev μ-loop : tie.MeasureT-loop
 μ-loop rows base waiting left₀ blocked₀ left blocked = left
 
 loop-holds : tie.Need-loop-holds Inv-loop μ-loop
-loop-holds c = blocking-start _ _ _ (c .before .pre)
+loop-holds c = search blocking-start
 
 first-requires : tie.Need-first-requires Inv-loop μ-loop
 first-requires c κs = search needs
@@ -36,12 +36,10 @@ minus-requires : tie.Need-minus-requires Inv-loop μ-loop
 minus-requires c κs = search needs
 
 loop-less : tie.Need-loop-less Inv-loop μ-loop
-loop-less c = blocking-less _ _ _ _ _ (c .before .before .before .before .first .ensures) (c .before .rest .ensures) (c .minus .ensures)
+loop-less c = search blocking-less
 
 loop-again : tie.Need-loop-again Inv-loop μ-loop
-loop-again c =
-    blocking-turn _ _ _ _ _ _ _ _ _ (c .before .before .before .before .before .before .loop .inv) (c .before .before .before .before
-    .first .ensures) (c .before .rest .ensures) (c .minus .ensures) (c .before .before .union .ensures)
+loop-again c = search blocking-turn
 
 returns : tie.Need-returns Inv-loop μ-loop
 returns c = search blocking-finish

@@ -1,9 +1,8 @@
 -- `sequencing::next` meets its contract. Each of the three sets has exactly the actions of its kind that are ready, and some action always is: so the
 -- lowest member of the first set that is not empty is the lowest ready action. Assumes nothing.
 use borrow.Author.Needs.{needs}
+use Rattle.sequencing.proofs.GivenLaws.{place-small, rows-ready}
 use Rattle.sequencing.proofs.NextLaws.{
-  place-small,
-  rows-ready,
   next-compute,
   next-visit,
   visit-child,

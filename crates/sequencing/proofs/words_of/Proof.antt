@@ -12,7 +12,7 @@ use Rattle.sequencing.proofs.WritingLaws.{
   writing-turn,
   writing-finish,
 }
-use Rattle.sequencing.proofs.NextLaws.{place-small}
+use Rattle.sequencing.proofs.GivenLaws.{place-small}
 use Rattle.sequencing.proofs.words_of.Statement.{statement}
 use Rattle.sequencing.proofs.words_of.Tie as tie
 

@@ -1,120 +1,32 @@
--- The sets that the code builds, attribute by attribute and position by position; each loop's record holds at its start, at every turn and at
--- its end gives what the function promises. Assumes nothing.
-use Prim.Native.Nat.{ℕ, _+_, _*_, _-_, _/_, _%_, _^_, _≤_, _<_, max}
+-- The sets of a whole rule, as the code builds them: each position has a block of eight bits of its own, empty for a terminal, so the blocks of the
+-- positions below i are what the loop has after i turns. Assumes nothing.
+use Prim.Native.Nat.{ℕ, _+_, _*_, _/_, _%_, _^_, _≤_, _<_}
 use mathlib.Core.Path.{_≡_, refl, sym, _∙_, ap, ap₂, subst, subst⁻¹}
 use mathlib.Core.Logic.{⊎-elim}
 use mathlib.Core.Bool.{Bool, true, false, cond}
 use mathlib.Core.List.{List}
 use native.Mathlib.Omega.{arith}
-use native.Mathlib.Numerals.{add-one}
-use lib.Dec.{T, ltb, leb, eqb}
-use lib.ListN.{getD}
+use lib.Dec.{T, ltb, leb}
+use lib.Pow.{ones-lt}
 use borrow.Author.Tests.{lt-ltb, le-ltb, le-leb, lt-leb}
 use Rattle.basics.specs.Tests.{_and_}
 use Rattle.basics.proofs.TestLaws.{below-or-not}
-use Rattle.bits.specs.Bit as bits
-use Rattle.bits.proofs.CountLaws.{count-le}
-use Rattle.bits.specs.Bit.{bit, number, collect, insert, below, union, minus, raised}
+use Rattle.bits.specs.Bit.{bit, number, collect, below, union, raised}
 use Rattle.bits.proofs.BitLaws.{bit-above, bit-below, bit-of-zero}
-use Rattle.bits.proofs.CollectLaws.{collect-lt, bit-collect-above}
+use Rattle.bits.proofs.CollectLaws.{collect-lt}
 use Rattle.bits.proofs.MemberLaws.{hasb-collect, hasb-below}
 use Rattle.grammar.specs.Table.{attributes, nonterminal, lengthAt}
-use Rattle.sets.specs.Visits.{setNumber, highest, lastSet, visits}
-use Rattle.access.specs.ByPlace.{symbolFrom, definingsAt, Shaped}
+use Rattle.sets.specs.Visits.{visits}
+use Rattle.access.specs.ByPlace.{symbolFrom, Shaped}
 use Rattle.access.proofs.Blocks.{block-more, collect-rest, below-small}
-use Rattle.remaining.specs.RuleSets.{
-  setMask,
-  inheritedMask,
-  synthesizedMask,
-  childVisits,
-  madeAttributes,
-  visitFrom,
-  madeFrom,
-  Few,
-  Started,
-  handedUp,
-  handedDown,
-}
-use Rattle.remaining.proofs.MaskLaws.{mask-small, no-member}
+use Rattle.remaining.specs.RuleSets.{childVisits, madeAttributes, visitFrom, visitsFrom, occurrencesFrom, madeFrom, Few}
+use Rattle.remaining.proofs.MaskLaws.{no-member}
 
--- one number more of a collected set
-collect-put : (a : ℕ) (f : ℕ → Bool) → cond (f a) (insert a (collect a f)) (collect a f) ≡ collect (a + 1) f
-unfolding collect insert
-collect-put a f = go (f a) ∙ ap (λ (k : ℕ). collect k f) (sym (add-one a))
-  where
-    go : (b : Bool) → cond b (insert a (collect a f)) (collect a f) ≡ collect a f + number b * 2 ^ a
-    go true = ap (λ (x : ℕ). collect a f + (1 - x) * 2 ^ a) (bit-collect-above a a f (omega arith))
-    go false = omega arith
-
--- ---- the attributes of a set
-pub record Masking (s : List ℕ) (x k mask a : ℕ) : Type 0 where
-  pub inside : a ≤ 8
-  pub maskIs : mask ≡ collect a (λ a. eqb (setNumber s x a) k)
-
-pub masking-start : (s : List ℕ) (x k : ℕ) → Masking s x k 0 0
-unfolding collect
-masking-start s x k = record { inside = omega arith; maskIs = refl }
-
-pub masking-turn : (s : List ℕ) (x k mask a m r : ℕ) → Masking s x k mask a → a < 8 → m ≡ getD s (8 * x + a) 0
-    → r ≡ cond (eqb m k) (insert a mask) mask → Masking s x k r (a + 1)
-unfolding setNumber
-masking-turn s x k mask a m r w h e f =
-    record {
-      inside = omega arith;
-      maskIs =
-          f
-          ∙ (ap₂ (λ (t : ℕ) (y : ℕ). cond (eqb t k) (insert a y) y) e (w .maskIs) ∙ collect-put a (λ a. eqb (setNumber s x a) k));
-    }
-
-pub masking-finish : (s : List ℕ) (x k mask a : ℕ) → Masking s x k mask a → 8 ≤ a → mask ≡ setMask s x k
-unfolding setMask
-masking-finish s x k mask a w h =
-    let e : a ≡ 8 = omega (arith, w .inside) in w .maskIs ∙ ap (λ (n : ℕ). collect n (λ a. eqb (setNumber s x a) k)) e
-
--- ---- the last set
-pub record Climbing (s : List ℕ) (x last a : ℕ) : Type 0 where
-  pub inside : a ≤ 8
-  pub lastIs : last ≡ highest a (λ a. setNumber s x a)
-  pub small : last < 65536
-
-pub climbing-start : (s : List ℕ) (x : ℕ) → Climbing s x 0 0
-unfolding highest
-climbing-start s x = record { inside = omega arith; lastIs = refl; small = omega arith }
-
-pub climbing-turn : (s : List ℕ) (x last a m r : ℕ) → Climbing s x last a → a < 8 → m ≡ getD s (8 * x + a) 0 → m < 65536
-    → r ≡ max last m → Climbing s x r (a + 1)
-unfolding setNumber highest
-climbing-turn s x last a m r w h e l f =
-    record {
-      inside = omega arith;
-      lastIs =
-          f ∙ (ap₂ max (w .lastIs) e ∙ ap (λ (k : ℕ). highest k (λ a. setNumber s x a)) (sym (add-one a)));
-      small = omega (arith, w .small);
-    }
-
-pub climbing-finish : (s : List ℕ) (x last a : ℕ) → Climbing s x last a → 8 ≤ a → last ≡ lastSet s x
-unfolding lastSet
-climbing-finish s x last a w h =
-    let e : a ≡ 8 = omega (arith, w .inside) in w .lastIs ∙ ap (λ (n : ℕ). highest n (λ a. setNumber s x a)) e
-
-pub visits-by : (s : List ℕ) (x last r : ℕ) → last ≡ lastSet s x → r ≡ max 1 ((last + 1) / 2) → r ≡ visits s x
-unfolding visits
-visits-by s x last r e f = f ∙ ap (λ (k : ℕ). max 1 ((k + 1) / 2)) e
-
-pub inherited-by : (s : List ℕ) (x n v r : ℕ) → v ≡ visits s x → r ≡ setMask s x (2 * (v + 1 - n)) → r ≡ inheritedMask s x n
-unfolding inheritedMask
-inherited-by s x n v r e f = f ∙ ap (λ (k : ℕ). setMask s x (2 * (k + 1 - n))) e
-
-pub synthesized-by : (s : List ℕ) (x n v r : ℕ) → v ≡ visits s x → r ≡ setMask s x (2 * (v + 1 - n) - 1) → r ≡ synthesizedMask s x n
-unfolding synthesizedMask
-synthesized-by s x n v r e f = f ∙ ap (λ (k : ℕ). setMask s x (2 * (k + 1 - n) - 1)) e
-
--- ---- the blocks of a rule: one a position, empty for a terminal
 bit-of-block : (t : Bool) (n a : ℕ) → bit a (cond t (below n) 0) ≡ number (t and ltb a n)
 unfolding _and_
 bit-of-block true n a =
     ⊎-elim (λ l. bit-below n a l ∙ sym (ap number (lt-ltb a n l)))
-    (λ l. bit-above n a (below n) (lib.Pow.ones-lt n) l ∙ sym (ap number (le-ltb a n l))) (below-or-not a n)
+    (λ l. bit-above n a (below n) (ones-lt n) l ∙ sym (ap number (le-ltb a n l))) (below-or-not a n)
 bit-of-block false n a = bit-of-zero a
 
 block-small : (t : Bool) (n : ℕ) → n ≤ 8 → cond t (below n) 0 < 256
@@ -188,10 +100,11 @@ module _ (g : List ℕ) (p : ℕ) where
   pub making-small : (end made i x : ℕ) → Making end made i → i < end → x ≡ symbolFrom g p i → attributes g x ≤ 8
   making-small end made i x w h e = few-attributes i x (w .shaped) (omega (arith, w .endIs)) e
 
-  pub making-place : (end made i x there : ℕ) → Making end made i → i < end → x ≡ symbolFrom g p i → there ≡ madeAttributes g x
-      → (there < 256) × (8 * i ≤ 56)
-  making-place end made i x there w h e f =
-      (made-small g x there (making-small end made i x w h e) f, omega (arith, w .endIs, w .shaped .short))
+  pub making-block : (end made i x there : ℕ) → Making end made i → i < end → x ≡ symbolFrom g p i → there ≡ madeAttributes g x → there < 256
+  making-block end made i x there w h e f = made-small g x there (making-small end made i x w h e) f
+
+  pub making-place : (end made i : ℕ) → Making end made i → i < end → 8 * i ≤ 56
+  making-place end made i w h = omega (arith, w .endIs, w .shaped .short)
 
   pub making-turn : (end made i x there part next : ℕ) → Making end made i → i < end → x ≡ symbolFrom g p i → there ≡ madeAttributes g x
       → part ≡ raised (8 * i) there → next ≡ union part made → Making end next (i + 1)
@@ -210,7 +123,8 @@ module _ (g : List ℕ) (p : ℕ) where
             (λ a l. made-bit i a (omega (arith, w .endIs)) l));
       }
 
-  pub making-finish : (end made i : ℕ) → Making end made i → end ≤ i → made ≡ collect 64 (λ o. madeFrom g p o)
+  pub making-finish : (end made i : ℕ) → Making end made i → end ≤ i → made ≡ occurrencesFrom g p
+  unfolding occurrencesFrom
   making-finish end made i w h =
       let e : i ≡ lengthAt g p + 1 = omega (arith, w .inside, w .endIs) in
       w .madeIs
@@ -267,10 +181,11 @@ module _ (g s : List ℕ) (p : ℕ) where
   calling-few end found i x w h e =
       subst⁻¹ (λ (y : ℕ). visits s y ≤ 5) e (w .few (i + 1) (omega (arith, w .endIs)))
 
-  pub calling-place : (end found i x there : ℕ) → Calling end found i → i < end → x ≡ symbolFrom g p (i + 1) → there ≡ childVisits g s x
-      → (there < 256) × (8 * (i + 1) ≤ 56)
-  calling-place end found i x there w h e f =
-      (child-small g s x there (calling-few end found i x w h e) f, omega (arith, w .endIs, w .shaped .short))
+  pub calling-block : (end found i x there : ℕ) → Calling end found i → i < end → x ≡ symbolFrom g p (i + 1) → there ≡ childVisits g s x → there < 256
+  calling-block end found i x there w h e f = child-small g s x there (calling-few end found i x w h e) f
+
+  pub calling-place : (end found i : ℕ) → Calling end found i → i < end → 8 * (i + 1) ≤ 56
+  calling-place end found i w h = omega (arith, w .endIs, w .shaped .short)
 
   pub calling-turn : (end found i x there part next : ℕ) → Calling end found i → i < end → x ≡ symbolFrom g p (i + 1) → there ≡ childVisits g s x
       → part ≡ raised (8 * (i + 1)) there → next ≡ union part found → Calling end next (i + 1)
@@ -289,54 +204,10 @@ module _ (g s : List ℕ) (p : ℕ) where
             (child-small g s (symbolFrom g p (i + 1)) (childVisits g s (symbolFrom g p (i + 1))) (w .few (i + 1) (omega (arith, w .endIs))) refl) (λ a l. visit-bit i a (omega (arith, w .endIs)) l));
       }
 
-  pub calling-finish : (end found i : ℕ) → Calling end found i → end ≤ i → found ≡ collect 64 (λ b. visitFrom g s p b)
+  pub calling-finish : (end found i : ℕ) → Calling end found i → end ≤ i → found ≡ visitsFrom g s p
+  unfolding visitsFrom
   calling-finish end found i w h =
       let e : i ≡ lengthAt g p = omega (arith, w .inside, w .endIs) in
       w .foundIs
       ∙ (ap (λ (k : ℕ). collect (8 * (k + 1)) (λ b. visitFrom g s p b)) e
       ∙ sym (collect-rest (8 * (lengthAt g p + 1)) 64 (λ b. visitFrom g s p b) (omega (arith, w .shaped .short)) visit-past))
-
--- ---- what is left before the first action, and after one
-pub started-by : (g s : List ℕ) (p x c v n l m d w : ℕ) → x ≡ symbolFrom g p 0 → c ≡ definingsAt g p → v ≡ collect 64 (λ b. visitFrom g s p b)
-    → n ≡ visits s x → l ≡ below n → m ≡ collect 64 (λ o. madeFrom g p o) → d ≡ inheritedMask s x 1 → w ≡ minus m d
-    → Started g s p c v l w
-started-by g s p x c v n l m d w e f h q k i j z =
-    record {
-      computesAre = f;
-      visitsAre = h;
-      leavesAre = k ∙ ap below (q ∙ ap (λ (y : ℕ). visits s y) e);
-      waitingAre = z ∙ ap₂ minus i (j ∙ ap (λ (y : ℕ). inheritedMask s y 1) e);
-    }
-
--- the leaves are few enough for one set
-pub few-leaves : (g s : List ℕ) (p x n : ℕ) → Few g p s → x ≡ symbolFrom g p 0 → n ≡ visits s x → n ≤ 64
-few-leaves g s p x n few e f = omega (arith, few 0 (omega arith), ap (λ (y : ℕ). visits s y) e)
-
-pub up-by : (g s : List ℕ) (p b x up part w r : ℕ) → x ≡ symbolFrom g p (b / 8) → up ≡ synthesizedMask s x (b % 8 + 1) → part ≡ raised (8 * (b / 8)) up
-    → r ≡ minus w part → r ≡ minus w (handedUp g s p b)
-unfolding handedUp
-up-by g s p b x up part w r e f h q =
-    q ∙ ap (minus w) (h ∙ ap (raised (8 * (b / 8))) (f ∙ ap (λ (y : ℕ). synthesizedMask s y (b % 8 + 1)) e))
-
-pub down-by : (g s : List ℕ) (p b x down w r : ℕ) → x ≡ symbolFrom g p 0 → down ≡ inheritedMask s x (b + 2) → r ≡ minus w down
-    → r ≡ minus w (handedDown g s p b)
-unfolding handedDown
-down-by g s p b x down w r e f q = q ∙ ap (minus w) (f ∙ ap (λ (y : ℕ). inheritedMask s y (b + 2)) e)
-
-pub up-small : (s : List ℕ) (x n up : ℕ) → up ≡ synthesizedMask s x n → up < 256
-unfolding synthesizedMask
-up-small s x n up e = subst⁻¹ (λ (y : ℕ). y < 256) e (mask-small s x (2 * (visits s x + 1 - n) - 1))
-
-pub up-inside : (g s : List ℕ) (p b x : ℕ) → b % 8 < visits s (symbolFrom g p (b / 8)) → x ≡ symbolFrom g p (b / 8) → b % 8 + 1 ≤ visits s x
-up-inside g s p b x h e = omega (arith, ap (λ (y : ℕ). visits s y) e)
-
-pub down-inside : (g s : List ℕ) (p b x : ℕ) → b < visits s (symbolFrom g p 0) → x ≡ symbolFrom g p 0 → b + 2 ≤ visits s x + 1
-down-inside g s p b x h e = omega (arith, ap (λ (y : ℕ). visits s y) e)
-
--- ---- how many actions are left
--- a count is at most 64
-pub count-fits : (s n : ℕ) → n ≡ bits.count 64 s → n ≤ 64
-count-fits s n e = omega (arith, count-le 64 s)
-
-pub counts-fit : (c v l x y z : ℕ) → x ≡ bits.count 64 c → y ≡ bits.count 64 v → z ≡ bits.count 64 l → x + y + z ≤ 192
-counts-fit c v l x y z e f h = omega (arith, count-le 64 c, count-le 64 v, count-le 64 l)

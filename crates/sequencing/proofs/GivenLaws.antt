@@ -1,0 +1,108 @@
+-- What is given of a rule, as its actions are taken one by one: its sets are orderly, its rows hold all paths and so are closed, and what waits is
+-- an occurrence. Assumes nothing.
+use Prim.Native.Nat.{ℕ, _+_, _*_, _%_, _≤_, _<_}
+use mathlib.Core.Path.{_≡_, sym, _∙_, ap, subst, subst⁻¹}
+use mathlib.Core.Bool.{Bool}
+use mathlib.Core.List.{List}
+use native.Mathlib.Omega.{arith}
+use lib.Dec.{T, lt→ltb}
+use lib.ListN.{length}
+use Rattle.bits.specs.Bit.{hasb}
+use Rattle.bits.proofs.CollectLaws.{collect-lt}
+use Rattle.bits.proofs.MemberLaws.{hasb-collect, hasb-below}
+use Rattle.basics.specs.Lists.{word}
+use Rattle.grammar.specs.Table.{symbolOf, rules, position}
+use Rattle.relations.specs.Computed.{idsOf}
+use Rattle.sets.specs.Visits.{setNumber, visits}
+use Rattle.sets.proofs.Visits.{visits-five}
+use Rattle.sets.specs.Computed.{setsOf}
+use Rattle.order.specs.Computed.{edpPath}
+use Rattle.order.specs.Paper.{EDP}
+use Rattle.order.proofs.ExactEdp.{edp-path-exact}
+use Rattle.relations.specs.Paper.{Path⁺}
+use Rattle.relations.proofs.PathLaws.{path-join}
+use Rattle.access.specs.ByPlace.{symbolFrom}
+use Rattle.access.proofs.Accessors.{symbol-at-rule, rule-fits}
+use Rattle.sequences.proofs.OrderlyRules.{Orderly, setAt, fits}
+use Rattle.sequences.proofs.PlannedSequences.{orderly}
+use Rattle.plans.specs.Answer.{edpPaths}
+use Rattle.sequencing.specs.Given.{Given}
+use Rattle.remaining.specs.Remaining.{remains}
+use Rattle.sequencing.specs.Going.{Going}
+use Rattle.sequencing.specs.Blocked.{Closed}
+use Rattle.sequencing.proofs.ReadyComputes.{waits-attribute}
+use Rattle.sequencing.proofs.ReadyComputes.{Free}
+use Rattle.remaining.proofs.RemainsLaws.{remains-compute, remains-visit, remains-leave}
+
+-- no action that is left goes before a
+abbrev pub Ready : List ℕ → List ℕ → ℕ → ℕ → ℕ → ℕ → ℕ → Type 0
+Ready g s r c v l a = Free g (idsOf g) s r (remains c v l) a
+
+-- what stands in one of the three sets is left
+pub left-compute : (c v l o : ℕ) → o < 64 → T (hasb o c) → T (remains c v l o)
+left-compute c v l o h t = subst⁻¹ (λ (x : Bool). T x) (remains-compute c v l o h) t
+
+pub left-visit : (c v l b : ℕ) → b < 64 → T (hasb b v) → T (remains c v l (64 + b))
+left-visit c v l b h t = subst⁻¹ (λ (x : Bool). T x) (remains-visit c v l b h) t
+
+pub left-leave : (c v l b : ℕ) → T (hasb b l) → T (remains c v l (128 + b))
+left-leave c v l b t = subst⁻¹ (λ (x : Bool). T x) (remains-leave c v l b) t
+
+module _ (g s rows : List ℕ) (p r : ℕ) (given : Given g s rows p r) where
+  pub orderly-rule : Orderly g (idsOf g) s r
+  orderly-rule =
+      subst⁻¹ (λ (x : List ℕ). Orderly g (idsOf g) x r) (given .sets)
+      (orderly g (given .good) (given .noncircular) (given .ordered) r (lt→ltb r (rules g) (given .counts)))
+
+  pub five-visits : (x : ℕ) → visits s x ≤ 5
+  five-visits x = subst⁻¹ (λ (y : List ℕ). visits y x ≤ 5) (given .sets) (visits-five g (idsOf g) x)
+
+  pub symbol-is : (i : ℕ) → symbolFrom g p i ≡ symbolOf g r i
+  symbol-is i = symbol-at-rule g r p (given .starts) i
+
+  -- the rows hold the paths
+  pub row-path : (o b : ℕ) → o < 64 → b < 64 → hasb b (word rows (64 * r + o)) ≡ edpPath g (idsOf g) s r o b
+  unfolding edpPaths
+  row-path o b h l =
+      ap (λ (x : ℕ). hasb b x) (given .paths o h)
+      ∙ (hasb-collect 64 b _ l ∙ ap (λ (x : List ℕ). edpPath g (idsOf g) x r o b) (sym (given .sets)))
+
+  pub set-from : (i o : ℕ) → position o ≡ i → setNumber s (symbolFrom g p i) (o % 8) ≡ setAt g s r o
+  unfolding setAt
+  set-from i o q = ap (λ (x : ℕ). setNumber s x (o % 8)) (symbol-is i ∙ ap (λ (j : ℕ). symbolOf g r j) (sym q))
+
+  pub visits-from : (i : ℕ) → visits s (symbolFrom g p i) ≡ visits s (symbolOf g r i)
+  visits-from i = ap (λ (x : ℕ). visits s x) (symbol-is i)
+
+  module _ (c v l w : ℕ) (going : Going g (idsOf g) s r (remains c v l) w) where
+    pub waiting-fits : (x : ℕ) → T (hasb x w) → x < 64
+    waiting-fits x t = fits g (idsOf g) s r orderly-rule x (waits-attribute g (idsOf g) s r orderly-rule five-visits (remains c v l) w going x t .occurs)
+
+-- The same as the code meets it.
+module _ (g s rows : List ℕ) (p r : ℕ) where
+  pub place-small : Given g s rows p r → p < 65536
+  place-small given = omega (arith, given .starts, rule-fits g r (given .good) (omega (arith, given .counts)))
+
+  pub rows-room : Given g s rows p r → 64 * r + 64 ≤ length rows
+  rows-room given = omega (arith, given .room, given .counts)
+
+  -- the rows hold all paths, so they are closed
+  pub rows-closed : Given g s rows p r → Closed rows (64 * r)
+  rows-closed given o k b h t u =
+      let l : k < 64 = row-below o h k t in
+      let m : b < 64 = row-below k l b u in
+      subst⁻¹ (λ (x : Bool). T x) (row-path g s rows p r given o b h m)
+      (edp-path-exact g (given .good) s r (lt→ltb r (rules g) (given .counts)) o b .1
+      (path-join (has-path o k h l t) (has-path k b l m u)))
+    where
+      row-below : (o : ℕ) → o < 64 → (k : ℕ) → T (hasb k (word rows (64 * r + o))) → k < 64
+      row-below o h k t =
+          hasb-below 64 k _ (collect-lt 64 (λ b. edpPaths g (idsOf g) (setsOf g (idsOf g)) r o b)) (subst (λ (x : ℕ). T (hasb k x)) (given .paths o h) t)
+
+      has-path : (o b : ℕ) → o < 64 → b < 64 → T (hasb b (word rows (64 * r + o))) → Path⁺ (EDP g (setNumber s) r) o b
+      has-path o b h m t =
+          edp-path-exact g (given .good) s r (lt→ltb r (rules g) (given .counts)) o b .0
+          (subst (λ (x : Bool). T x) (row-path g s rows p r given o b h m) t)
+
+  pub rows-ready : Given g s rows p r → (64 * r + 64 ≤ length rows) × Closed rows (64 * r)
+  rows-ready given = (rows-room given, rows-closed given)

@@ -1,0 +1,143 @@
+-- Where no compute is ready, the lowest visit in the set of ready visits is the next action: the set has exactly the visits that are ready.
+-- Assumes nothing.
+use Prim.Native.Nat.{ℕ, _+_, _*_, _-_, _/_, _%_, _<_}
+use mathlib.Core.Path.{_≡_, sym, _∙_, ap, subst, subst⁻¹}
+use mathlib.Core.Bool.{Bool}
+use mathlib.Core.List.{List}
+use native.Mathlib.Omega.{arith}
+use lib.Dec.{T, T-not, not-T}
+use Rattle.bits.specs.Bit.{hasb, remove, minus, First}
+use Rattle.bits.proofs.MemberLaws.{none-left, minus-both, both-minus}
+use Rattle.grammar.specs.Table.{position}
+use Rattle.relations.specs.Computed.{idsOf}
+use Rattle.sets.specs.Visits.{setNumber}
+use Rattle.access.specs.ByPlace.{symbolFrom}
+use Rattle.sequences.specs.Actions.{Action, visit, decode, makes}
+use Rattle.sequences.proofs.ActionNumbers.{decode-number}
+use Rattle.sequences.proofs.ActionLaws.{ChildVisit, belongs-visit, action-belongs}
+use Rattle.sequences.proofs.MakesLaws.{makes-visit, visit-makes, synthesized-of}
+use Rattle.sequencing.specs.Given.{Given}
+use Rattle.remaining.specs.Remaining.{remains}
+use Rattle.sequencing.specs.Going.{Going, Taken}
+use Rattle.remaining.specs.RuleSets.{handedUp, Along, readyVisits}
+use Rattle.remaining.proofs.MemberWalks.{first-member, under-first}
+use Rattle.sequencing.proofs.Makers.{odd-of-visit, visit-odd}
+use Rattle.sequencing.proofs.ReadyComputes.{waits-attribute}
+use Rattle.sequencing.proofs.ReadyVisits.{VisitReady, free-visit, ready-visit}
+use Rattle.sequencing.proofs.OrderSteps.{taken}
+use Rattle.remaining.proofs.RemainsLaws.{remains-visit, Kind, aCompute, aVisit, aLeave, kind-of, less-visit}
+use Rattle.remaining.proofs.MaskLaws.{up-at, at-up, Passes, ready-at, at-ready}
+use Rattle.sequencing.proofs.GivenLaws.{left-visit, set-from, visits-from, Ready, orderly-rule, five-visits}
+
+-- visit b is visit b % 8 + 1 of child b / 8
+visit-is : (b : ℕ) → b < 64 → decode (64 + b) ≡ visit (b / 8) (b % 8 + 1)
+visit-is b h =
+    let e : 64 + b ≡ 64 + 8 * (b / 8) + (b % 8 + 1 - 1) = omega arith in
+    ap decode e ∙ decode-number (visit (b / 8) (b % 8 + 1)) (omega arith, omega arith, omega arith)
+
+module _ (g s rows : List ℕ) (p r : ℕ) (given : Given g s rows p r) where
+  module _ (c v l w : ℕ) (going : Going g (idsOf g) s r (remains c v l) w) where
+    pub child : (b : ℕ) → b < 64 → T (hasb b v) → ChildVisit g s r (b / 8) (b % 8 + 1)
+    child b h t =
+        belongs-visit g s r (b / 8) (b % 8 + 1)
+        (action-belongs g s r (64 + b) (visit (b / 8) (b % 8 + 1)) (visit-is b h) (going .actions (64 + b) (left-visit c v l b h t)))
+
+    abbrev Next : ℕ → ℕ → Type 0
+    Next i n = VisitReady g (idsOf g) s r (remains c v l) w i n
+
+    -- the test of a visit says that it is ready
+    passes-next : (b : ℕ) → b < 64 → Passes g s p v w b → Next (b / 8) (b % 8 + 1)
+    passes-next b h u =
+        record {
+          next = λ m k q t.
+              let e : 64 + 8 * (b / 8) + (m - 1) ≡ 64 + (8 * (b / 8) + (m - 1)) = omega arith in
+              u .next (m - 1) (omega arith)
+              (subst (λ (x : Bool). T x) (remains-visit c v l (8 * (b / 8) + (m - 1)) (omega arith))
+              (subst (λ (a : ℕ). T (remains c v l a)) e t));
+          handed = λ o t q k.
+              let e : 8 * (b / 8) + o % 8 ≡ o = omega arith in
+              u .handed (o % 8) (omega arith) (subst⁻¹ (λ (x : ℕ). T (hasb x w)) e t)
+              (set-from g s rows p r given (b / 8) o q ∙ (k ∙ ap (λ (x : ℕ). 2 * (x + 1 - (b % 8 + 1))) (sym (visits-from g s rows p r given (b / 8)))));
+        }
+
+    next-passes : (b : ℕ) → b < 64 → Next (b / 8) (b % 8 + 1) → Passes g s p v w b
+    next-passes b h u =
+        record {
+          next = λ k q t.
+              let e : 64 + (8 * (b / 8) + k) ≡ 64 + 8 * (b / 8) + (k + 1 - 1) = omega arith in
+              u .next (k + 1) (omega arith) (omega arith)
+              (subst (λ (a : ℕ). T (remains c v l a)) e (left-visit c v l (8 * (b / 8) + k) (omega arith) t));
+          handed = λ a k t q.
+              let e : (8 * (b / 8) + a) / 8 ≡ b / 8 = omega arith in
+              let f : (8 * (b / 8) + a) % 8 ≡ a = omega arith in
+              u .handed (8 * (b / 8) + a) t e
+              (sym (set-from g s rows p r given (b / 8) (8 * (b / 8) + a) e)
+              ∙ (ap (λ (x : ℕ). setNumber s (symbolFrom g p (b / 8)) x) f
+              ∙ (q ∙ ap (λ (x : ℕ). 2 * (x + 1 - (b % 8 + 1))) (visits-from g s rows p r given (b / 8)))));
+        }
+
+    module _ (down : List ℕ) (along : Along g s p v down) where
+      ready-is-visit : (b : ℕ) → b < 64 → T (hasb b v) → Ready g s r c v l (64 + b) → T (hasb b (readyVisits down v w))
+      ready-is-visit b h t f =
+          let e : 64 + b ≡ 64 + 8 * (b / 8) + (b % 8 + 1 - 1) = omega arith in
+          at-ready g s p down v w b along h t
+          (next-passes b h
+          (free-visit g (idsOf g) s r (orderly-rule g s rows p r given) (five-visits g s rows p r given) (remains c v l) w going (b / 8) (b % 8 + 1) (child b h t)
+          (subst (λ (a : ℕ). Ready g s r c v l a) e f)))
+
+      visit-is-ready : (b : ℕ) → T (hasb b (readyVisits down v w)) → Ready g s r c v l (64 + b)
+      visit-is-ready b t =
+          let u = ready-at g s p down v w b along t in
+          let e : 64 + b ≡ 64 + 8 * (b / 8) + (b % 8 + 1 - 1) = omega (arith, u .0) in
+          subst⁻¹ (λ (a : ℕ). Ready g s r c v l a) e
+          (ready-visit g (idsOf g) s r (orderly-rule g s rows p r given) (five-visits g s rows p r given) (remains c v l) w going (b / 8) (b % 8 + 1) (child b (u .0) (u .1))
+          (passes-next b (u .0) (u .2)))
+
+      -- an action below that of visit b that is ready would be a compute, or a visit below b
+      pub take-visit : (b : ℕ) → ((o : ℕ) → o < 64 → T (remains c v l o) → Ready g s r c v l o → ⊥) → First (readyVisits down v w) b
+          → Taken g (idsOf g) s r (remains c v l) (64 + b) (remains c (remove b v) l) (minus w (handedUp g s p b))
+      take-visit b none f =
+          taken g (idsOf g) s r (remains c v l) w going (64 + b) (left-visit c v l b (f .small) (here .1))
+          (visit-is-ready b (first-member _ b f)) (λ a k t u. lower a k t u (kind-of a))
+          (remains c (remove b v) l) (less-visit c v l b (f .small)) (minus w (handedUp g s p b))
+          (λ o t.
+          let u = minus-both o w (handedUp g s p b) t in
+          (u .0, λ m. T-not (hasb o (handedUp g s p b)) (u .1) (up o m)))
+          (λ o t n. both-minus o w (handedUp g s p b) t (not-T (hasb o (handedUp g s p b)) (λ u. n (of-up o t u))))
+        where
+          here : (b < 64) × T (hasb b v) × Passes g s p v w b
+          here = ready-at g s p down v w b along (first-member _ b f)
+
+          lower : (a : ℕ) → a < 64 + b → T (remains c v l a) → Ready g s r c v l a → Kind a → ⊥
+          lower a k t u (aCompute h) = none a h t u
+          lower a k t u (aVisit d h e) =
+              under-first _ b d f (omega arith)
+              (ready-is-visit d h (subst (λ (x : Bool). T x) (remains-visit c v l d h) (subst (λ (x : ℕ). T (remains c v l x)) e t))
+              (subst (λ (x : ℕ). Ready g s r c v l x) e u))
+          lower a k t u (aLeave d e) = omega (arith, f .small)
+
+          visited : ChildVisit g s r (b / 8) (b % 8 + 1)
+          visited = child b (f .small) (here .1)
+
+          up : (o : ℕ) → T (makes g s r (decode (64 + b)) o) → T (hasb o (handedUp g s p b))
+          up o m =
+              let k = makes-visit g s r (b / 8) (b % 8 + 1) o (subst (λ (y : Action). T (makes g s r y o)) (visit-is b (f .small)) m) in
+              let q : position o ≡ b / 8 = synthesized-of g s r (b / 8) (b % 8 + 1) o (k .1) .0 .stands in
+              at-up g s p b o q
+              (set-from g s rows p r given (b / 8) o q
+              ∙ (visit-odd g (idsOf g) s r (orderly-rule g s rows p r given) (b / 8) (b % 8 + 1) o (k .0) (k .1)
+              ∙ ap (λ (x : ℕ). 2 * (x + 1 - (b % 8 + 1)) - 1) (sym (visits-from g s rows p r given (b / 8)))))
+
+          of-up : (o : ℕ) → T (hasb o w) → T (hasb o (handedUp g s p b)) → T (makes g s r (decode (64 + b)) o)
+          of-up o t u =
+              let k = up-at g s p b o u in
+              subst⁻¹ (λ (y : Action). T (makes g s r y o)) (visit-is b (f .small))
+              (visit-makes g s r (b / 8) (b % 8 + 1) o (visited .nonterminalThere)
+              (odd-of-visit g (idsOf g) s r (orderly-rule g s rows p r given) (b / 8) (b % 8 + 1) o
+              (waits-attribute g (idsOf g) s r (orderly-rule g s rows p r given) (five-visits g s rows p r given) (remains c v l) w going o t) (k .0) (omega arith) (visited .last)
+              (sym (set-from g s rows p r given (b / 8) o (k .0)) ∙ (k .1 ∙ ap (λ (x : ℕ). 2 * (x + 1 - (b % 8 + 1)) - 1) (visits-from g s rows p r given (b / 8))))))
+
+      pub no-visit-ready : readyVisits down v w ≡ 0 → (b : ℕ) → b < 64 → T (remains c v l (64 + b)) → Ready g s r c v l (64 + b) → ⊥
+      no-visit-ready e b h t f =
+          T-not (hasb b 0) (none-left b)
+          (subst (λ (x : ℕ). T (hasb b x)) e (ready-is-visit b h (subst (λ (x : Bool). T x) (remains-visit c v l b h) t) f))
