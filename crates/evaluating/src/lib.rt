@@ -1,4 +1,5 @@
 // The value of a function at a node of a tree. The words and values that it reads are there: that is asked of the caller, so nothing is tested.
+use access::known;
 ghost use mathlib.Core.Path.{_≡_};
 ghost use Prim.Native.Nat.{_+_, _≤_, _<_};
 ghost use lib.ListN.{length};
@@ -6,13 +7,6 @@ ghost use Rattle.basics.specs.Lists.{word};
 ghost use Rattle.values.specs.Value.{constant};
 ghost use Rattle.trees.specs.Tree as trees;
 ghost use Rattle.evaluating.specs.FunctionPlaces as places;
-
-// A word as an index.
-fn wide(x: u16) -> usize
-    ensures { λ r. ⌜ (r ≡ x) × (r < 65536) ⌝ }
-{
-    x as usize
-}
 
 // The node at position i of the rule at node n: itself at 0, else its child.
 fn node_at(tree: &[u16], n: usize, i: usize) -> usize
@@ -22,7 +16,7 @@ fn node_at(tree: &[u16], n: usize, i: usize) -> usize
     if i == 0 {
         return n;
     }
-    wide(tree[8 * n + i])
+    known(tree, 8 * n + i)
 }
 
 // Where the value of occurrence o of the rule at node n stands.
@@ -38,7 +32,7 @@ fn argument_value(words: &[u16], q: usize, tree: &[u16], values: &[i32], n: usiz
     requires { ⌜ places.Named (now words) q (now tree) n (length (now values)) ⌝ }
     ensures { λ r. ⌜ r ≡ places.occurrenceValue (now (tree .entry)) (now (values .entry)) n (word (now (words .entry)) q) ⌝ }
 {
-    let c = cell(tree, n, wide(words[q]));
+    let c = cell(tree, n, known(words, q));
     values[c]
 }
 

@@ -1,7 +1,7 @@
 -- The machine of a run in arrays. The node on top and its place are at hand; the nodes below it stand in `stack`, from the bottom up, of which the first
 -- `depth` words count, and `marks` has for each the word of the plan at which it goes on. Every other node has its place in `places`.
 -- For proofs of the code: no demand rests on it. Assumes nothing.
-use Prim.Native.Nat.{ℕ, zero, suc, _+_, _*_, _-_, _<_}
+use Prim.Native.Nat.{ℕ, zero, suc, _+_, _-_, _<_}
 use mathlib.Core.Path.{_≡_}
 use mathlib.Core.List.{List, [], _∷_}
 use lib.IntN.{ℤ}

@@ -6,14 +6,8 @@ use borrow.Author.Needs.{needs}
 use Rattle.evaluating.proofs.argument_value.Statement.{statement}
 use Rattle.evaluating.proofs.argument_value.Tie as tie
 
-mul-wide : tie.Need-mul-wide
-mul-wide c = search needs
-
-shared-slice-read-wide : tie.Need-shared-slice-read-wide
-shared-slice-read-wide c = search needs
-
-wide-requires : tie.Need-wide-requires
-wide-requires c κs = search needs
+known-requires : tie.Need-known-requires
+known-requires c κs = search needs
 
 cell-requires : tie.Need-cell-requires
 cell-requires c κs = search needs
@@ -21,7 +15,7 @@ cell-requires c κs = search needs
 mul-result : tie.Need-mul-result
 mul-result c =
     let entry = c .before .before .before .before in
-    omega (arith, named-cell (entry .before .pre) (c .before .wide .ensures .0) (c .cell .ensures))
+    omega (arith, named-cell (entry .pre) (c .before .known .ensures .0) (c .cell .ensures))
 
 shared-slice-copy-out-result : tie.Need-shared-slice-copy-out-result
 shared-slice-copy-out-result c = search named-cell
@@ -29,16 +23,14 @@ shared-slice-copy-out-result c = search named-cell
 returns : tie.Need-returns
 returns c =
     let read = c .before .before in
-    let entry = read .before .before .before .before in
-    named-value _ (entry .args .values .now) _ _ (read .wide .ensures .0) (c .before .cell .ensures) (c .result .given)
+    let entry = read .before .before .before in
+    named-value _ (entry .args .values .now) _ _ (read .known .ensures .0) (c .before .cell .ensures) (c .result .given)
 
 pub argument-value-spec : {M : Type 1} → statement M
 argument-value-spec =
     tie.close
     (tie.spec
-    mul-wide
-    shared-slice-read-wide
-    wide-requires
+    known-requires
     cell-requires
     mul-result
     shared-slice-copy-out-result

@@ -9,25 +9,17 @@ use Rattle.evaluating.proofs.node_at.Tie as tie
 returns : tie.Need-returns
 returns c = (sym (node-left _ _ _ (c .if1 .taken)), omega arith)
 
-mul-wide : tie.Need-mul-wide
-mul-wide c = search needs
+mul-known : tie.Need-mul-known
+mul-known c = search needs
 
-add-wide : tie.Need-add-wide
-add-wide c = search needs
+add-known : tie.Need-add-known
+add-known c = search needs
 
-mul-wide-2 : tie.Need-mul-wide-2
-mul-wide-2 c = search needs
-
-shared-slice-read-wide : tie.Need-shared-slice-read-wide
-shared-slice-read-wide c = search needs
-
-wide-requires : tie.Need-wide-requires
-wide-requires c κs = search needs
+known-requires : tie.Need-known-requires
+known-requires c κs = search needs
 
 returns-2 : tie.Need-returns-2
-returns-2 c = (c .wide .ensures .0 ∙ sym (node-child _ _ _ (omega arith)), omega arith)
+returns-2 c = (c .known .ensures .0 ∙ sym (node-child _ _ _ (omega arith)), omega arith)
 
 pub node-at-spec : {M : Type 1} → statement M
-node-at-spec =
-    tie.close
-    (tie.spec returns mul-wide add-wide mul-wide-2 shared-slice-read-wide wide-requires returns-2)
+node-at-spec = tie.close (tie.spec returns mul-known add-known known-requires returns-2)

@@ -1,5 +1,4 @@
 -- `evaluating::of_three` meets its contract: operation 7 is handed its three arguments, and 0 for the fourth. Assumes nothing.
-use mathlib.Core.Path.{refl}
 use native.Mathlib.Omega.{arith}
 use Rattle.evaluating.proofs.PlaceLaws.{three-value}
 use borrow.Author.Needs.{needs}
