@@ -6,6 +6,7 @@ ghost use Prim.Native.Nat.{_+_, _*_, _^_, _≤_, _<_};
 ghost use lib.ListN.{length, getD};
 ghost use Rattle.bits.specs.Bit as bit;
 ghost use Rattle.basics.specs.Lists.{word};
+ghost use Rattle.grammar.specs.Limits.{mostRules};
 ghost use Rattle.grammar.specs.Table as table;
 ghost use Rattle.access.specs.ByPlace as places;
 
@@ -92,7 +93,7 @@ pub fn nonterminal(words: &[u16], x: usize) -> bool
 
 // The word at which rule r starts, by the offsets that reading hands on.
 pub fn rule_at(offsets: &Offsets, r: usize) -> usize
-    requires { ⌜ r < 64 ⌝ }
+    requires { ⌜ r < mostRules ⌝ }
     ensures { λ p. ⌜ p ≡ getD (now (offsets .entry)) r 0 ⌝ }
 {
     wide(offsets[r])

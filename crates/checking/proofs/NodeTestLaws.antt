@@ -17,6 +17,7 @@ use Rattle.grammar.specs.declared.Verdict.the-variants.{Good, Refused}
 use Rattle.grammar.specs.Verdicts.{unless}
 use Rattle.grammar.proofs.VerdictLaws.{then-good, unless-good}
 use Rattle.access.proofs.Laws.{stops, passes, unless-true, unless-false}
+use Rattle.grammar.specs.Limits.{mostRules}
 use Rattle.grammar.specs.Table.{symbols, rules, nonterminal, lengthAt, ruleAt, rightLength, symbolOf}
 use Rattle.grammar.specs.Reading.{readTable}
 use Rattle.grammar.specs.WellFormed.{WellFormed}
@@ -95,7 +96,7 @@ length-room g offsets r p w h e = omega (arith, offset-is g offsets r w h, rule-
 pub left-room : (g offsets : List ℕ) (r p : ℕ) → Ready g offsets → r < rules g → p ≡ getD offsets r 0 → p < length g
 left-room g offsets r p w h e = omega (arith, length-room g offsets r p w h e)
 
-pub few-rules : (g offsets : List ℕ) (r : ℕ) → Ready g offsets → r < rules g → r < 64
+pub few-rules : (g offsets : List ℕ) (r : ℕ) → Ready g offsets → r < rules g → r < mostRules
 few-rules g offsets r w h = omega (arith, accepted g (w .good) .rulesFit)
 
 right-length-is : (g offsets : List ℕ) (r p v : ℕ) → Ready g offsets → r < rules g → p ≡ getD offsets r 0 → v ≡ lengthAt g p → v ≡ rightLength g r

@@ -20,7 +20,7 @@ use Rattle.trees.proofs.Cells.{cell-inside}
 use Rattle.evaluating.specs.FunctionPlaces.{Valued}
 use Rattle.evaluating.proofs.ValuedLaws.{function-valued}
 use Rattle.runs.specs.declared.Ran as R
-use Rattle.grammar.specs.Limits.{ruleWords}
+use Rattle.grammar.specs.Limits.{mostOccurrences, ruleWords}
 use Rattle.plans.specs.Sequences.{sequenceAt, actionAt}
 use Rattle.runs.specs.Automaton.{Machine, functionFor, act, step, after}
 use Rattle.runs.specs.Totals.{total}
@@ -169,18 +169,18 @@ module _ {g p t starts : List ℕ} {entry : List ℤ} {stack marks places : List
     pub defines : action < 64 → T (defining g (ruleOf t n) action)
     defines h = belongs-compute g p (ruleOf t n) action (action-belongs g p (ruleOf t n) action _ (decode-compute action h) belongs)
 
-    pub function-is : action < 64 → {f : ℕ} → f ≡ word starts (64 * r + action) → f ≡ functionOf g (ruleOf t n) (functionFor g (ruleOf t n) action)
+    pub function-is : action < 64 → {f : ℕ} → f ≡ word starts (mostOccurrences * r + action) → f ≡ functionOf g (ruleOf t n) (functionFor g (ruleOf t n) action)
     function-is h e =
         let r′ : ℕ = ruleOf t n in
         let known : r′ < rules g = omega (arith, w .ruleIs, rule-known) in
         let v = facts .table .defined r′ action known (defines h) in
         e
-        ∙ (ap₂ (λ (x o : ℕ). word starts (64 * x + o)) (w .ruleIs) (sym (v .2))
+        ∙ (ap₂ (λ (x o : ℕ). word starts (mostOccurrences * x + o)) (w .ruleIs) (sym (v .2))
         ∙ (k .located r′ known (v .0) (v .1)
         ∙ (ap (functionOf g r′) (sym (function-for (facts .table) r′ (v .0) known (v .1)))
         ∙ ap (λ (o : ℕ). functionOf g r′ (functionFor g r′ o)) (v .2))))
 
-    pub core-valued : action < 64 → {f : ℕ} → f ≡ word starts (64 * r + action) → Valued g f t n (length values)
+    pub core-valued : action < 64 → {f : ℕ} → f ≡ word starts (mostOccurrences * r + action) → Valued g f t n (length values)
     core-valued h {f} e =
         let r′ : ℕ = ruleOf t n in
         let known : r′ < rules g = omega (arith, w .ruleIs, rule-known) in

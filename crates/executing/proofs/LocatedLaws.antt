@@ -11,7 +11,7 @@ use lib.Seq.{getD-set-same, getD-set-other}
 use Rattle.basics.specs.Lists.{word}
 use Rattle.basics.proofs.TestLaws.{below-suc}
 use Rattle.grammar.specs.declared.Verdict.the-variants.{Good}
-use Rattle.grammar.specs.Limits.{longestTable}
+use Rattle.grammar.specs.Limits.{mostRules, mostOccurrences, longestTable}
 use Rattle.grammar.specs.Table.{rules, functionsAt, functionAt, ruleAt, functions, functionOf, target}
 use Rattle.grammar.specs.Reading.{readTable}
 use Rattle.grammar.specs.WellFormed.{WellFormed}
@@ -20,7 +20,7 @@ use Rattle.grammar.proofs.RuleStarts.{functions-rise, formed-length, rules-rise
 use Rattle.access.specs.ByPlace.{nextFunction}
 use Rattle.access.specs.Offsets.{offsetsFor}
 use Rattle.access.proofs.Accessors.{next-function, offset-of, rule-fits}
-use Rattle.executing.specs.Located.{HasRule, Located, RuleLocated}
+use Rattle.executing.specs.Located.{startWords, HasRule, Located, RuleLocated}
 
 -- ---- what an accepted table says of its functions
 
@@ -41,20 +41,20 @@ module _ (g : List ℕ) (formed : WellFormed g) (r : ℕ) (inside : r < rules g)
 pub record Locating (g : List ℕ) (r : ℕ) (before starts : List ℕ) (f k n : ℕ) : Type 0 where
   pub formed : WellFormed g
   pub inside : r < rules g
-  pub few : rules g ≤ 64
-  pub size : length starts ≡ 4096
+  pub few : rules g ≤ mostRules
+  pub size : length starts ≡ startWords
   pub functionIs : f ≡ functionOf g r k
   pub fits : f ≤ longestTable
   pub endIs : n ≡ functions g r
   pub count : k ≤ n
-  pub here : (j : ℕ) → j < k → word starts (64 * r + target g r j) ≡ functionOf g r j
-  pub stays : (i : ℕ) → i < 64 * r → word starts i ≡ word before i
+  pub here : (j : ℕ) → j < k → word starts (mostOccurrences * r + target g r j) ≡ functionOf g r j
+  pub stays : (i : ℕ) → i < mostOccurrences * r → word starts i ≡ word before i
 
 -- the rule starts within the table
 pub rule-starts : (g : List ℕ) (r p : ℕ) → readTable g ≡ Good → r < rules g → p ≡ ruleAt g r → p < 65536
 rule-starts g r p good h e = omega (arith, e, rule-fits g r good (omega arith))
 
-pub locating-start : (g : List ℕ) (r p f n : ℕ) (starts : List ℕ) → readTable g ≡ Good → r < rules g → p ≡ ruleAt g r → length starts ≡ 4096
+pub locating-start : (g : List ℕ) (r p f n : ℕ) (starts : List ℕ) → readTable g ≡ Good → r < rules g → p ≡ ruleAt g r → length starts ≡ startWords
     → f ≡ functionAt g p 0 → n ≡ functionsAt g p → Locating g r starts starts f 0 n
 unfolding functions
 locating-start g r p f n starts good h e s q m =
@@ -84,16 +84,16 @@ pub target-small : {g before starts : List ℕ} {r f k n o : ℕ} → Locating g
 target-small w h q = target-word w h q .1
 
 noted : {g before starts : List ℕ} {r f k n o next : ℕ} → Locating g r before starts f k n → k < n → o ≡ word g f → next ≡ nextFunction g f
-    → Locating g r before (set starts (64 * r + o) f) next (k + 1) n
+    → Locating g r before (set starts (mostOccurrences * r + o) f) next (k + 1) n
 noted {g} {before} {starts} {r} {f} {k} {n} {o} {next} w h q s =
     let t = target-word w h q in
-    let room : 64 * r + o < length starts = omega (arith, t .1, w .size, w .few, w .inside) in
+    let room : mostOccurrences * r + o < length starts = omega (arith, t .1, w .size, w .few, w .inside) in
     let found : next ≡ functionOf g r (k + 1) = s ∙ (next-function g (ruleAt g r) k f (w .functionIs) ∙ ap (functionOf g r) (sym (add-one k))) in
     record {
       formed = w .formed;
       inside = w .inside;
       few = w .few;
-      size = length-set starts (64 * r + o) f ∙ w .size;
+      size = length-set starts (mostOccurrences * r + o) f ∙ w .size;
       functionIs = found;
       fits = omega (arith, found, function-fits g (w .formed) r (w .inside) (k + 1) (omega (arith, w .endIs)));
       endIs = w .endIs;
@@ -101,19 +101,19 @@ noted {g} {before} {starts} {r} {f} {k} {n} {o} {next} w h q s =
       here = λ j l.
           ⊎-elim
           (λ b.
-          getD-set-other starts (64 * r + o) (64 * r + target g r j) f 0
+          getD-set-other starts (mostOccurrences * r + o) (mostOccurrences * r + target g r j) f 0
           (λ i. w .formed .function r k (w .inside) (omega (arith, w .endIs)) .targetOnce j b (omega (arith, t .0)))
           ∙ w .here j b)
           (λ b.
-          let i : 64 * r + target g r j ≡ 64 * r + o = ap (λ (x : ℕ). 64 * r + x) (ap (target g r) b ∙ sym (t .0)) in
-          ap (word (set starts (64 * r + o) f)) i
-          ∙ (getD-set-same starts (64 * r + o) f 0 room ∙ (w .functionIs ∙ ap (functionOf g r) (sym b))))
+          let i : mostOccurrences * r + target g r j ≡ mostOccurrences * r + o = ap (λ (x : ℕ). mostOccurrences * r + x) (ap (target g r) b ∙ sym (t .0)) in
+          ap (word (set starts (mostOccurrences * r + o) f)) i
+          ∙ (getD-set-same starts (mostOccurrences * r + o) f 0 room ∙ (w .functionIs ∙ ap (functionOf g r) (sym b))))
           (below-suc j k (omega arith));
-      stays = λ i l. getD-set-other starts (64 * r + o) i f 0 (λ b. omega arith) ∙ w .stays i l;
+      stays = λ i l. getD-set-other starts (mostOccurrences * r + o) i f 0 (λ b. omega arith) ∙ w .stays i l;
     }
 
 pub locating-turn : {g before starts after : List ℕ} {r f k n o next : ℕ} → Locating g r before starts f k n → k < n → o ≡ word g f
-    → after ≡ set starts (64 * r + o) f → next ≡ nextFunction g f → Locating g r before after next (k + 1) n
+    → after ≡ set starts (mostOccurrences * r + o) f → next ≡ nextFunction g f → Locating g r before after next (k + 1) n
 locating-turn {g} {before} {starts} {after} {r} {f} {k} {n} {o} {next} w h q e s = subst⁻¹ (λ (a : List ℕ). Locating g r before a next (k + 1) n) e (noted w h q s)
 
 pub locating-finish : {g before starts : List ℕ} {r f k n : ℕ} → Locating g r before starts f k n → n ≤ k → RuleLocated g r before starts
@@ -125,12 +125,12 @@ pub record AllLocated (g offsets starts : List ℕ) (r n : ℕ) : Type 0 where
   pub good : readTable g ≡ Good
   pub offsetsIs : offsets ≡ offsetsFor g Good
   pub endIs : n ≡ rules g
-  pub few : n ≤ 64
+  pub few : n ≤ mostRules
   pub inside : r ≤ n
-  pub size : length starts ≡ 4096
+  pub size : length starts ≡ startWords
   pub located : (q : ℕ) → q < r → HasRule g starts q
 
-pub all-start : (g offsets starts : List ℕ) (n : ℕ) → readTable g ≡ Good → offsets ≡ offsetsFor g Good → length starts ≡ 4096 → n ≡ rules g
+pub all-start : (g offsets starts : List ℕ) (n : ℕ) → readTable g ≡ Good → offsets ≡ offsetsFor g Good → length starts ≡ startWords → n ≡ rules g
     → AllLocated g offsets starts 0 n
 all-start g offsets starts n good e size end =
     record {
@@ -166,7 +166,7 @@ all-turn {g} {offsets} {starts} {next} {r} w h v =
       located = λ q l.
           ⊎-elim
           (λ b k s.
-          v .stays (64 * q + target g q k) (omega (arith, target-fits g (accepted g (w .good)) q (omega (arith, w .endIs, w .inside)) k s))
+          v .stays (mostOccurrences * q + target g q k) (omega (arith, target-fits g (accepted g (w .good)) q (omega (arith, w .endIs, w .inside)) k s))
           ∙ w .located q b k s)
           (λ b. subst⁻¹ (λ (x : ℕ). HasRule g next x) b (v .here)) (below-suc q r (omega arith));
     }

@@ -12,7 +12,7 @@ use Rattle.sequences.specs.Actions.{compute, leave}
 use Rattle.trees.specs.Tree.{mostNodes, nodes, ruleOf, child, cell}
 use Rattle.evaluating.specs.FunctionPlaces.{Valued}
 use Rattle.runs.specs.declared.Ran as R
-use Rattle.grammar.specs.Limits.{mostRules, ruleWords, planWords}
+use Rattle.grammar.specs.Limits.{mostOccurrences, mostRules, ruleWords, planWords}
 use Rattle.plans.specs.Sequences.{sequenceAt, actionAt}
 use Rattle.runs.specs.Automaton.{started, after}
 use Rattle.runs.specs.Totals.{total}
@@ -134,7 +134,7 @@ module _ {g p t starts : List ℕ} {entry : List ℤ} {stack marks places : List
     is-action = let e : at ≡ sequenceAt r + 1 + w .place = omega (arith, w .atIs) in isWord ∙ ap (word p) e
 
     -- what a compute reads and writes is there
-    pub valued : action < 64 → {f : ℕ} → f ≡ word starts (64 * r + action) → Valued g f t n (length values)
+    pub valued : action < 64 → {f : ℕ} → f ≡ word starts (mostOccurrences * r + action) → Valued g f t n (length values)
     valued h e = core-valued top is-action h e
 
     pub cell-there : action < 64 → cell t n action < length values
@@ -149,7 +149,7 @@ module _ {g p t starts : List ℕ} {entry : List ℤ} {stack marks places : List
     parent-there h d = core-parent top is-action h (omega arith) refl
 
     -- one action more
-    pub turn-compute : action < 64 → {f : ℕ} → f ≡ word starts (64 * r + action) → {after : List ℤ} → after ≡ written g t values n action f
+    pub turn-compute : action < 64 → {f : ℕ} → f ≡ word starts (mostOccurrences * r + action) → {after : List ℤ} → after ≡ written g t values n action f
         → Left g p t starts entry stack marks places depth n r (at + 1) after (left - 1) budget
     turn-compute h e {after} q =
         record {

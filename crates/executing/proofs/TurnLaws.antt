@@ -13,6 +13,7 @@ use Rattle.basics.proofs.TestLaws.{below-suc, below-or-not}
 use Rattle.sequences.specs.Actions.{compute, visit, leave}
 use Rattle.sequences.proofs.ActionNumbers.{decode-compute, decode-visit, decode-leave}
 use Rattle.sequences.proofs.ActionLaws.{action-below}
+use Rattle.grammar.specs.Limits.{mostOccurrences}
 use Rattle.trees.specs.Tree.{nodes, ruleOf, child, cell}
 use Rattle.evaluating.proofs.PlaceLaws.{by-number}
 use Rattle.runs.specs.declared.Ran as R
@@ -34,7 +35,7 @@ module _ {g p t starts : List ℕ} {entry : List ℤ} {stack marks places : List
     (w : Core g p t starts entry stack marks places depth n r place values count budget) where
   module _ {action : ℕ} (isAct : action ≡ actionAt p r place) where
     -- "A compute writes one value"
-    pub core-compute : action < 64 → {f : ℕ} → f ≡ word starts (64 * r + action) → {after : List ℤ} → after ≡ written g t values n action f → count < budget
+    pub core-compute : action < 64 → {f : ℕ} → f ≡ word starts (mostOccurrences * r + action) → {after : List ℤ} → after ≡ written g t values n action f → count < budget
         → Core g p t starts entry stack marks places depth n r (place + 1) after (count + 1) budget
     unfolding machineOf written act computed
     core-compute h {f} e q more =

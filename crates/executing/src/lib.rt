@@ -36,7 +36,7 @@ type Nodes = [u16; MOST_NODES];
 
 // Notes that the function of occurrence o of rule r starts at word f.
 fn note(starts: &mut Starts, r: usize, o: usize, f: usize)
-    requires { ⌜ length (now starts) ≡ 4096 ⌝ }
+    requires { ⌜ length (now starts) ≡ located.startWords ⌝ }
     requires { ⌜ (r < mostRules) × ((o < mostOccurrences) × (f < 65536)) ⌝ }
     ensures { λ _. ⌜ now (starts .exit) ≡ set (now (starts .entry)) (mostOccurrences * r + o) f ⌝ }
 {
@@ -47,7 +47,7 @@ fn note(starts: &mut Starts, r: usize, o: usize, f: usize)
 fn locate_rule(words: &[u16], r: usize, p: usize, starts: &mut Starts)
     requires { ⌜ readTable (now words) ≡ Good ⌝ }
     requires { ⌜ (r < table.rules (now words)) × (p ≡ table.ruleAt (now words) r) ⌝ }
-    requires { ⌜ length (now starts) ≡ 4096 ⌝ }
+    requires { ⌜ length (now starts) ≡ located.startWords ⌝ }
     ensures { λ _. ⌜ located.RuleLocated (now (words .entry)) r (now (starts .entry)) (now (starts .exit)) ⌝ }
 {
     let mut f = access::first_function(words, p);
@@ -61,7 +61,7 @@ fn locate_rule(words: &[u16], r: usize, p: usize, starts: &mut Starts)
 fn function_starts(words: &[u16], offsets: &Offsets, starts: &mut Starts)
     requires { ⌜ readTable (now words) ≡ Good ⌝ }
     requires { ⌜ now offsets ≡ offsetsFor (now words) Good ⌝ }
-    requires { ⌜ length (now starts) ≡ 4096 ⌝ }
+    requires { ⌜ length (now starts) ≡ located.startWords ⌝ }
     ensures { λ _. ⌜ located.Located (now (words .entry)) (now (starts .exit)) ⌝ }
 {
     for r in 0..access::rules(words) {
