@@ -32,7 +32,7 @@ use Rattle.runs.specs.Sound.{Sound}
 use Rattle.runs.specs.Automaton.{Machine, started, functionFor, computed, act, step, after}
 use Rattle.runs.specs.Totals.{total}
 use Rattle.runs.specs.Run.{ran}
-use Rattle.runs.specs.Balance.{Given, times}
+use Rattle.runs.specs.Balance.{RunGiven as Given, times}
 use Rattle.runs.specs.Computing.{machineAt}
 use Rattle.runs.proofs.Steps.{all-zero, action-of, step-on, times-same}
 use Rattle.runs.proofs.Moments.{before-total}
