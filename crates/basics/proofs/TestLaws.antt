@@ -203,9 +203,6 @@ least-some n f t =
     ⊎-elim (λ l. l) (λ l. absurd (least-is n f .lowest (w .0) (omega (arith, w .1)) (w .2)))
     (below-or-not (least n f) n)
 
-pub some-least : (n : ℕ) (f : ℕ → Bool) → least n f < n → T (some n f)
-some-least n f h = some-at n f (least n f) h (least-is n f .passes h)
-
 -- counting: it never passes the bound, grows with the test, and grows strictly where a new number passes
 pub count-le : (n : ℕ) (f : ℕ → Bool) → count n f ≤ n
 unfolding count

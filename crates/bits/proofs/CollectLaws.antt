@@ -3,12 +3,12 @@
 use Prim.Native.Nat.{ℕ, zero, suc, _+_, _*_, _^_, _≤_, _<_, max}
 use native.Mathlib.Nat.{add-comm, one-mul, zero-mul, eq-or-lt-of-le, le-of-suc-le-suc}
 use native.Mathlib.Omega.{arith}
-use mathlib.Core.Path.{_≡_, refl, sym, ap, ap₂, _∙_, subst}
+use mathlib.Core.Path.{_≡_, sym, ap, _∙_, subst}
 use mathlib.Core.Bool.{Bool, true, false}
 use mathlib.Core.Logic.{_⊎_, inl, inr}
 use lib.Bits.{or-shifted}
-use Rattle.bits.specs.Bit.{bit, number, hasb, collect}
-use Rattle.bits.proofs.BitLaws.{bit-or, bit-above, bit-ext, bit-of-zero, bit-single-same, bit-single-other, number-hasb}
+use Rattle.bits.specs.Bit.{bit, number, collect}
+use Rattle.bits.proofs.BitLaws.{bit-or, bit-above, bit-ext, bit-of-zero, bit-single-same, bit-single-other}
 
 -- one bit more on top
 number-mul : (c : Bool) (p : ℕ) → number c * p ≤ p
@@ -44,17 +44,6 @@ bit-collect (suc w) i f l = go (eq-or-lt-of-le (le-of-suc-le-suc l)) (bit-collec
 
 pub bit-collect-above : (w i : ℕ) (f : ℕ → Bool) → w ≤ i → bit i (collect w f) ≡ 0
 bit-collect-above w i f l = bit-above w i (collect w f) (collect-lt w f) l
-
-pub collect-ext : (w : ℕ) (f g : ℕ → Bool) → ((i : ℕ) → i < w → f i ≡ g i) → collect w f ≡ collect w g
-unfolding collect
-collect-ext zero f g e = refl
-collect-ext (suc w) f g e =
-    ap₂ (λ (x : ℕ) (c : Bool). x + number c * 2 ^ w) (collect-ext w f g (λ i l. e i (omega arith))) (e w (omega arith))
-
--- a set is what its members collect
-pub collect-members : (w s : ℕ) → s < 2 ^ w → collect w (λ i. hasb i s) ≡ s
-collect-members w s h =
-    bit-ext w (collect w (λ i. hasb i s)) s (collect-lt w (λ i. hasb i s)) h (λ i l. bit-collect w i (λ i. hasb i s) l ∙ number-hasb i s)
 
 -- the one set below 2 ^ w with these members
 pub collect-unique : (w s : ℕ) (f : ℕ → Bool) → s < 2 ^ w → ((i : ℕ) → i < w → bit i s ≡ number (f i)) → s ≡ collect w f

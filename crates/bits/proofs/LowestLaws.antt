@@ -5,7 +5,7 @@ use native.Mathlib.Nat.{eq-or-lt-of-le, le-of-suc-le-suc}
 use native.Mathlib.Omega.{arith}
 use mathlib.Core.Path.{_≡_, refl, sym, ap, _∙_, subst, subst⁻¹}
 use mathlib.Core.Logic.{_⊎_, inl, inr}
-use lib.Count.{trailingZeros, under, trailing-of-zero}
+use lib.Count.{trailingZeros, under}
 use lib.Pow.{pow-pos}
 use Rattle.bits.specs.Bit.{bit, lowest, First}
 use Rattle.bits.proofs.BitLaws.{bit-zero, bit-suc, bit-cases, bit-of-zero, bit-ext}
@@ -77,9 +77,6 @@ bit-lowest w s h k = lowest-is w s .member (lowest-lt w s h k)
 
 pub bit-under-lowest : (w i s : ℕ) → i < lowest w s → bit i s ≡ 0
 bit-under-lowest w i s l = lowest-is w s .free i l
-
-pub lowest-of-zero : (w : ℕ) → lowest w 0 ≡ w
-lowest-of-zero w = sym (trailing-lowest w 0) ∙ trailing-of-zero w
 
 -- what answers the lowest member of a set that is not empty
 pub first-of : (s l : ℕ) → l ≡ lowest 64 s → s < 2 ^ 64 → 0 < s → First s l

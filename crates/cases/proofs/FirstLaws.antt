@@ -32,7 +32,7 @@ use Rattle.refusals.specs.Numbers.{numberOf, placeOf, secondOf}
 use Rattle.grammar.specs.declared.Verdict.{Verdict}
 use Rattle.grammar.specs.declared.Verdict.the-variants.{Good, Refused}
 use Rattle.grammar.specs.Verdicts.{_then_}
-use Rattle.cases.specs.First.{walk, Earlier, earlierWalk, earlierPlace, lowerOccurrence, lowerNumber, First, GoesBy}
+use Rattle.cases.specs.First.{walk, Earlier, earlierWalk, earlierPlace, lowerOccurrence, lowerNumber, FirstCase, GoesBy}
 
 -- a verdict is good or one refusal
 pub good-not-refused : (n : Refusal) → Good ≡ Refused n → ⊥
@@ -114,7 +114,7 @@ module _ (g : List ℕ) where
       by-walk (higher l) = inr (inl (earlierWalk l))
 
   -- one case at most is the first
-  first-one : (Case : Refusal → Type 1) (m n : Refusal) → First g Case m → First g Case n → m ≡ n
+  first-one : (Case : Refusal → Type 1) (m n : Refusal) → FirstCase g Case m → FirstCase g Case n → m ≡ n
   first-one Case m n v w =
       ⊎-elim (λ e. absurd (w .noEarlier m (v .applies) e))
       (λ r. ⊎-elim (λ e. absurd (v .noEarlier n (w .applies) e)) (λ e. e) r) (ordered m n)
@@ -128,36 +128,36 @@ module _ (g : List ℕ) where
 
   -- a verdict that is good only where no case applies, and whose refusal is the first case, goes by the cases
   pub goes-by : (Case : Refusal → Type 1) (v : Verdict) → (v ≡ Good → (n : Refusal) → ¬ Case n)
-      → ((n : Refusal) → v ≡ Refused n → First g Case n) → GoesBy g Case v
+      → ((n : Refusal) → v ≡ Refused n → FirstCase g Case n) → GoesBy g Case v
   goes-by Case v none first =
       record {
         good = (none, back v first refl);
         refused = λ n. (first n, λ f. same-refusal v none first refl n f);
       }
     where
-      back : (w : Verdict) → ((n : Refusal) → w ≡ Refused n → First g Case n) → v ≡ w → ((n : Refusal) → ¬ Case n) → v ≡ Good
+      back : (w : Verdict) → ((n : Refusal) → w ≡ Refused n → FirstCase g Case n) → v ≡ w → ((n : Refusal) → ¬ Case n) → v ≡ Good
       back Good f e h = e
       back (Refused n) f e h = absurd (h n (f n refl .applies))
 
-      same-refusal : (w : Verdict) → (w ≡ Good → (n : Refusal) → ¬ Case n) → ((n : Refusal) → w ≡ Refused n → First g Case n) → v ≡ w
-          → (n : Refusal) → First g Case n → v ≡ Refused n
+      same-refusal : (w : Verdict) → (w ≡ Good → (n : Refusal) → ¬ Case n) → ((n : Refusal) → w ≡ Refused n → FirstCase g Case n) → v ≡ w
+          → (n : Refusal) → FirstCase g Case n → v ≡ Refused n
       same-refusal Good h f e n q = absurd (h refl n (q .applies))
       same-refusal (Refused m) h f e n q = e ∙ ap Refused (first-one Case m n (f m refl) q)
 
   -- a verdict's finding: no case applies, or this is the first
   pub data Found (Case : Refusal → Type 1) (v : Verdict) : Type 1 where
     nothing : v ≡ Good → ((n : Refusal) → ¬ Case n) → Found Case v
-    fault : (n : Refusal) → v ≡ Refused n → First g Case n → Found Case v
+    fault : (n : Refusal) → v ≡ Refused n → FirstCase g Case n → Found Case v
 
   pub by-finding : (Case : Refusal → Type 1) (v : Verdict) → Found Case v → GoesBy g Case v
   by-finding Case v (nothing e h) = goes-by Case v (λ i. h) (λ n i. absurd (good-not-refused n (sym e ∙ i)))
   by-finding Case v (fault m e f) =
-      goes-by Case v (λ i. absurd (good-not-refused m (sym i ∙ e))) (λ n i. subst (First g Case) (same-refused m n (sym e ∙ i)) f)
+      goes-by Case v (λ i. absurd (good-not-refused m (sym i ∙ e))) (λ n i. subst (FirstCase g Case) (same-refused m n (sym e ∙ i)) f)
 
   -- Two verdicts one after the other, the cases of the second in later walks: together they go by the cases of both.
   module _ (A B Both : Refusal → Type 1) (left : (n : Refusal) → A n → Both n) (right : (n : Refusal) → B n → Both n)
       (either : (n : Refusal) → Both n → A n ⊎ B n) (later : (m n : Refusal) → A m → B n → walk g m < walk g n) where
-    first-left : (n : Refusal) → First g A n → First g Both n
+    first-left : (n : Refusal) → FirstCase g A n → FirstCase g Both n
     first-left n f =
         record {
           applies = left n (f .applies);
@@ -165,7 +165,7 @@ module _ (g : List ℕ) where
               ⊎-elim (λ a. f .noEarlier m a e) (λ b. later-walk m n (later n m (f .applies) b) e) (either m c);
         }
 
-    first-right : ((m : Refusal) → ¬ A m) → (n : Refusal) → First g B n → First g Both n
+    first-right : ((m : Refusal) → ¬ A m) → (n : Refusal) → FirstCase g B n → FirstCase g Both n
     first-right none n f =
         record {
           applies = right n (f .applies);

@@ -18,51 +18,51 @@ use Rattle.cases.proofs.FirstLaws.{good-not-refused, same-refused, goes
 
 module _ (Case : Refusal → Type 1) (key : Refusal → ℕ) where
   -- what the verdict refuses has a key below this one
-  pub record Ends (v : Verdict) (end : ℕ) : Type 0 where
+  pub record EndsBelow (v : Verdict) (end : ℕ) : Type 0 where
     pub below : (n : Refusal) → v ≡ Refused n → key n < end
 
   -- and is a case
-  pub record Within (v : Verdict) (end : ℕ) : Type 1 where
+  pub record CasesWithin (v : Verdict) (end : ℕ) : Type 1 where
     pub is : (n : Refusal) → v ≡ Refused n → Case n
-    pub ends : Ends v end
+    pub ends : EndsBelow v end
 
   -- the verdict does not stop at this key or before
   pub record Passed (v : Verdict) (k : ℕ) : Type 0 where
     pub after : (n : Refusal) → v ≡ Refused n → k < key n
 
-  ends-good : (end : ℕ) → Ends Good end
+  ends-good : (end : ℕ) → EndsBelow Good end
   ends-good end = record { below = λ n e. absurd (good-not-refused n e) }
 
-  pub ends-then : (v w : Verdict) (end : ℕ) → Ends v end → Ends w end → Ends (v then w) end
+  pub ends-then : (v w : Verdict) (end : ℕ) → EndsBelow v end → EndsBelow w end → EndsBelow (v then w) end
   unfolding _then_
   ends-then Good w end p q = q
   ends-then (Refused m) w end p q = p
 
-  pub ends-unless : (b : Bool) (m : Refusal) (end : ℕ) → key m < end → Ends (unless b m) end
+  pub ends-unless : (b : Bool) (m : Refusal) (end : ℕ) → key m < end → EndsBelow (unless b m) end
   unfolding unless
   ends-unless true m end l = ends-good end
   ends-unless false m end l = record { below = λ n e. subst (λ (r : Refusal). key r < end) (same-refused m n e) l }
 
-  pub ends-each : (n : ℕ) (f : ℕ → Verdict) (end : ℕ) → ((k : ℕ) → k < n → Ends (f k) end) → Ends (each n f) end
+  pub ends-each : (n : ℕ) (f : ℕ → Verdict) (end : ℕ) → ((k : ℕ) → k < n → EndsBelow (f k) end) → EndsBelow (each n f) end
   unfolding each
   ends-each zero f end h = ends-good end
   ends-each (suc n) f end h = ends-then (each n f) (f n) end (ends-each n f end (λ k l. h k (omega arith))) (h n (omega arith))
 
-  pub within-good : (end : ℕ) → Within Good end
+  pub within-good : (end : ℕ) → CasesWithin Good end
   within-good end = record { is = λ n e. absurd (good-not-refused n e); ends = ends-good end }
 
   -- a later part may rely on the earlier ones
-  pub within-then : (v w : Verdict) (end : ℕ) → Within v end → (v ≡ Good → Within w end) → Within (v then w) end
+  pub within-then : (v w : Verdict) (end : ℕ) → CasesWithin v end → (v ≡ Good → CasesWithin w end) → CasesWithin (v then w) end
   unfolding _then_
   within-then Good w end p q = q refl
   within-then (Refused m) w end p q = p
 
-  pub within-unless : (b : Bool) (m : Refusal) (end : ℕ) → (T (not b) → Case m) → key m < end → Within (unless b m) end
+  pub within-unless : (b : Bool) (m : Refusal) (end : ℕ) → (T (not b) → Case m) → key m < end → CasesWithin (unless b m) end
   unfolding unless
   within-unless true m end c l = within-good end
   within-unless false m end c l = record { is = λ n e. subst Case (same-refused m n e) (c tt); ends = ends-unless false m end l }
 
-  pub within-each : (n : ℕ) (f : ℕ → Verdict) (end : ℕ) → ((k : ℕ) → k < n → Within (f k) end) → Within (each n f) end
+  pub within-each : (n : ℕ) (f : ℕ → Verdict) (end : ℕ) → ((k : ℕ) → k < n → CasesWithin (f k) end) → CasesWithin (each n f) end
   unfolding each
   within-each zero f end h = within-good end
   within-each (suc n) f end h =
@@ -80,11 +80,11 @@ module _ (Case : Refusal → Type 1) (key : Refusal → ℕ) where
   passed-first (Refused m) w k p = p
 
   -- a part that ends at this key or before is good
-  pub passed-all : (v : Verdict) (k : ℕ) → Ends v (suc k) → Passed v k → v ≡ Good
+  pub passed-all : (v : Verdict) (k : ℕ) → EndsBelow v (suc k) → Passed v k → v ≡ Good
   passed-all Good k w p = refl
   passed-all (Refused m) k w p = absurd (omega (arith, w .below m refl, p .after m refl))
 
-  pub passed-second : (v w : Verdict) (k : ℕ) → Ends v (suc k) → Passed (v then w) k → Passed w k
+  pub passed-second : (v w : Verdict) (k : ℕ) → EndsBelow v (suc k) → Passed (v then w) k → Passed w k
   unfolding _then_
   passed-second Good w k h p = p
   passed-second (Refused m) w k h p = absurd (omega (arith, h .below m refl, p .after m refl))
@@ -94,7 +94,7 @@ module _ (Case : Refusal → Type 1) (key : Refusal → ℕ) where
   passed-unless true m p = tt
   passed-unless false m p = absurd (omega (arith, p .after m refl))
 
-  pub passed-each : (n : ℕ) (f : ℕ → Verdict) (k i : ℕ) → i < n → ((j : ℕ) → j < i → Ends (f j) (suc k)) → Passed (each n f) k
+  pub passed-each : (n : ℕ) (f : ℕ → Verdict) (k i : ℕ) → i < n → ((j : ℕ) → j < i → EndsBelow (f j) (suc k)) → Passed (each n f) k
       → Passed (f i) k
   unfolding each
   passed-each zero f k i l h p = absurd (not-suc-le-zero l)
@@ -105,7 +105,7 @@ module _ (Case : Refusal → Type 1) (key : Refusal → ℕ) where
       (passed-second (each n f) (f n) k (ends-each n f (suc k) (λ j s. h j (omega arith))) p)) (below-suc i n l)
 
   -- where each case's test is among the tests up to its key, the verdict goes by the cases
-  pub by-keys : (g : List ℕ) (v : Verdict) (end : ℕ) → Within v end → ((m : Refusal) → Case m → Passed v (key m) → ⊥)
+  pub by-keys : (g : List ℕ) (v : Verdict) (end : ℕ) → CasesWithin v end → ((m : Refusal) → Case m → Passed v (key m) → ⊥)
       → ((m n : Refusal) → Case m → Case n → Earlier g m n → key m < key n) → GoesBy g Case v
   by-keys g v end w tests order =
       goes-by g Case v (λ e n c. tests n c (passed-good v (key n) e))

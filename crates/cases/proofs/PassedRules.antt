@@ -32,7 +32,7 @@ use Rattle.grammar.specs.Verdicts.{_then_, unless, each}
 use Rattle.grammar.specs.Reading.{present, ranged, leftFault, definedBelow, argumentFault, functionFault, bodyFault, ruleBefore, ruleFault}
 use Rattle.grammar.proofs.RuleStarts.{functions-rise, rule-step}
 use Rattle.cases.specs.TableCases.{HasFunction, TableCase}
-use Rattle.cases.proofs.PassedLaws.{Ends, ends-then, ends-unless, ends-each, passed-each}
+use Rattle.cases.proofs.PassedLaws.{EndsBelow, ends-then, ends-unless, ends-each, passed-each}
 use Rattle.cases.proofs.TableKeys.{key, after-header, function-after, class-key}
 use Rattle.cases.proofs.TableRefusals.{in-before, in-function, in-body}
 use Rattle.cases.proofs.PassedWords.{Past, past-first, past-second, ends-ranged, ends-present, present-there, past-unless}
@@ -52,14 +52,14 @@ module _ (g : List ℕ) where
   unfolding leftFault
   left-class r k l p = past-second g _ _ k (ends-ranged g (ruleAt g r) _ (suc k) (omega arith)) p
 
-  ends-left : (r end : ℕ) → 16 * ruleAt g r + 4 ≤ end → Ends (TableCase g) (key g) (leftFault g r) end
+  ends-left : (r end : ℕ) → 16 * ruleAt g r + 4 ≤ end → EndsBelow (TableCase g) (key g) (leftFault g r) end
   unfolding leftFault
   ends-left r end l =
       let a = after-header g r in
       ends-then (TableCase g) (key g) _ _ end (ends-ranged g (ruleAt g r) _ end (omega arith))
       (ends-unless (TableCase g) (key g) _ (WrongClass (ruleAt g r)) end (omega (arith, class-key g (ruleAt g r) (omega arith))))
 
-  pub ends-rule : (r end : ℕ) → r < rules g → 16 * ruleAt g (suc r) ≤ end → Ends (TableCase g) (key g) (ruleFault g r) end
+  pub ends-rule : (r end : ℕ) → r < rules g → 16 * ruleAt g (suc r) ≤ end → EndsBelow (TableCase g) (key g) (ruleFault g r) end
   unfolding ruleFault
   ends-rule r end h l =
       let s = rule-step g r in
@@ -149,7 +149,7 @@ module _ (g : List ℕ) where
       → Past g (ranged g (functionOf g r f + 1) (leb (operation g r f) lastOperation)) k
   function-operation r f k l p = past-first g _ _ k (function-rest r f k l p)
 
-  ends-argument : (r f j end : ℕ) → 16 * (functionOf g r f + 2 + j) + 5 ≤ end → Ends (TableCase g) (key g) (argumentFault g r f j) end
+  ends-argument : (r f j end : ℕ) → 16 * (functionOf g r f + 2 + j) + 5 ≤ end → EndsBelow (TableCase g) (key g) (argumentFault g r f j) end
   unfolding argumentFault
   ends-argument r f j end l =
       ends-then (TableCase g) (key g) _ _ end (ends-present g (functionOf g r f + 2 + j) end (omega arith))

@@ -13,7 +13,7 @@ use Rattle.grammar.specs.Verdicts.{_then_, each}
 use Rattle.grammar.specs.Reading.{header, symbolFault, startClass, functionFault, bodyFault, ruleBefore, ruleFault, leftOver, readTable}
 use Rattle.grammar.proofs.RuleStarts.{rules-rise}
 use Rattle.cases.specs.TableCases.{HasFunction, TableCase}
-use Rattle.cases.proofs.PassedLaws.{Ends, ends-unless, ends-each, passed-each}
+use Rattle.cases.proofs.PassedLaws.{EndsBelow, ends-unless, ends-each, passed-each}
 use Rattle.cases.proofs.TableKeys.{key, first-rule, rule-end, functions-start, function-next, rule-inside, function-after}
 use Rattle.cases.proofs.SymbolRefusals.{in-header, in-symbol, in-symbols}
 use Rattle.cases.proofs.PassedWords.{
@@ -46,15 +46,15 @@ use Rattle.cases.proofs.PassedRules.{
 }
 
 -- a number from f 0 up to f n lies in one of the n steps
-data Step (f : ℕ → ℕ) (n p : ℕ) : Type 0 where
-  step : (k : ℕ) → k < n → f k ≤ p → p < f (suc k) → Step f n p
+data InStep (f : ℕ → ℕ) (n p : ℕ) : Type 0 where
+  step : (k : ℕ) → k < n → f k ≤ p → p < f (suc k) → InStep f n p
 
-find-step : (f : ℕ → ℕ) (n p : ℕ) → f 0 ≤ p → p < f n → Step f n p
+find-step : (f : ℕ → ℕ) (n p : ℕ) → f 0 ≤ p → p < f n → InStep f n p
 find-step f zero p l h = absurd (omega arith)
 find-step f (suc n) p l h =
     ⊎-elim (λ s. more (find-step f n p l s)) (λ s. step n (omega arith) s h) (below-or-not p (f n))
   where
-    more : Step f n p → Step f (suc n) p
+    more : InStep f n p → InStep f (suc n) p
     more (step k s a b) = step k (omega arith) a b
 
 module _ (g : List ℕ) where
@@ -80,7 +80,7 @@ module _ (g : List ℕ) where
       (λ x h. in-symbol g x (suc k) h (omega arith) .ends))
       (past-second g _ _ k (in-header g (suc k) (omega arith) .ends) p))
 
-  ends-start : (end : ℕ) → 16 * ruleAt g 0 ≤ end → Ends (TableCase g) (key g) (startClass g) end
+  ends-start : (end : ℕ) → 16 * ruleAt g 0 ≤ end → EndsBelow (TableCase g) (key g) (startClass g) end
   unfolding startClass
   ends-start end l = ends-unless (TableCase g) (key g) _ (WrongClass 2) end (omega (arith, first-rule g))
 
@@ -158,7 +158,7 @@ module _ (g : List ℕ) where
       (λ t. body (table-body r (16 * p + 1) h (omega arith) q) t)
       (below-or-not p (ruleAt g r + 1))
     where
-      within : Step (functionOf g r) (functions g r) p → p < length g
+      within : InStep (functionOf g r) (functions g r) p → p < length g
       within (step f s a b) = function-words r f p (record { ruleInside = h; functionInside = s }) a b q
 
       body : Past g (bodyFault g r) (16 * p + 1) → ruleAt g r + 1 ≤ p → p < length g
@@ -192,7 +192,7 @@ module _ (g : List ℕ) where
   word-there p h q =
       ⊎-elim in-head (λ l. ⊎-elim (in-symbols-words l) in-rules-words (below-or-not p (ruleAt g 0))) (below-or-not p 3)
     where
-      within : Step (λ r. ruleAt g r) (rules g) p → p < length g
+      within : InStep (λ r. ruleAt g r) (rules g) p → p < length g
       within (step r s a b) = rule-words r p s a b q
 
       in-head : p < 3 → p < length g

@@ -15,7 +15,7 @@ use Rattle.grammar.specs.Table.{symbols, rules, start, symbolAt, kind, attribut
 use Rattle.grammar.specs.Verdicts.{_then_, unless}
 use Rattle.grammar.specs.Reading.{present, ranged, header, symbolFault}
 use Rattle.cases.specs.TableCases.{TableCase}
-use Rattle.cases.proofs.PassedLaws.{Ends, ends-then, ends-unless, Passed, passed-down, passed-first, passed-second, passed-unless}
+use Rattle.cases.proofs.PassedLaws.{EndsBelow, ends-then, ends-unless, Passed, passed-down, passed-first, passed-second, passed-unless}
 use Rattle.cases.proofs.TableKeys.{key}
 
 module _ (g : List ℕ) where
@@ -25,7 +25,7 @@ module _ (g : List ℕ) where
   pub past-first : (v w : Verdict) (k : ℕ) → Past (v then w) k → Past v k
   past-first v w k p = passed-first (TableCase g) (key g) v w k p
 
-  pub past-second : (v w : Verdict) (k : ℕ) → Ends (TableCase g) (key g) v (suc k) → Past (v then w) k → Past w k
+  pub past-second : (v w : Verdict) (k : ℕ) → EndsBelow (TableCase g) (key g) v (suc k) → Past (v then w) k → Past w k
   past-second v w k h p = passed-second (TableCase g) (key g) v w k h p
 
   pub past-down : (v : Verdict) (a b : ℕ) → a ≤ b → Past v b → Past v a
@@ -35,11 +35,11 @@ module _ (g : List ℕ) where
   past-unless b n k h p = passed-unless (TableCase g) (key g) b n (past-down (unless b n) (key g n) k h p)
 
   -- The keys of the tests at one word.
-  pub ends-present : (p end : ℕ) → 16 * p + 2 ≤ end → Ends (TableCase g) (key g) (present g p) end
+  pub ends-present : (p end : ℕ) → 16 * p + 2 ≤ end → EndsBelow (TableCase g) (key g) (present g p) end
   unfolding present
   ends-present p end l = ends-unless (TableCase g) (key g) (ltb p (length g)) (EndsEarly p) end (omega arith)
 
-  pub ends-ranged : (p : ℕ) (b : Bool) (end : ℕ) → 16 * p + 3 ≤ end → Ends (TableCase g) (key g) (ranged g p b) end
+  pub ends-ranged : (p : ℕ) (b : Bool) (end : ℕ) → 16 * p + 3 ≤ end → EndsBelow (TableCase g) (key g) (ranged g p b) end
   unfolding ranged
   ends-ranged p b end l =
       ends-then (TableCase g) (key g) _ _ end (ends-present p end (omega arith))

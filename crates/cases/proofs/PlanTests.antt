@@ -32,7 +32,6 @@ use Rattle.plans.specs.Answer.{
   outcome,
   answerOf,
 }
-use Rattle.plans.proofs.Answers.{idpCycle, edpCycle}
 use Rattle.cases.specs.First.{readyWalk, walk, earlierWalk, GoesBy}
 use Rattle.cases.specs.PlanningCases.{PlanCase, inTable, inPlanning}
 use Rattle.cases.specs.PlanningCases as case

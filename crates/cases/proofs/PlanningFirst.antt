@@ -28,7 +28,7 @@ use Rattle.sets.specs.Visits.{setNumber}
 use Rattle.order.specs.Paper.{EDP, CircularIDP, LowestCycle}
 use Rattle.order.specs.Computed.{circular}
 use Rattle.order.proofs.ExactEdp.{edp-path-exact, edp-from}
-use Rattle.order.proofs.Cycles.{cycle-found}
+use Rattle.order.proofs.CycleSearch.{cycle-found}
 use Rattle.order.proofs.WholeGrammar.{computedSets, sets-exist, edp-paths-same}
 use Rattle.sequences.proofs.PaperSequence.{none-left-out}
 use Rattle.plans.specs.Answer.{
@@ -47,7 +47,7 @@ use Rattle.plans.specs.Answer.{
 }
 use Rattle.plans.proofs.Answers.{setsFor, idpRule, idpOccurrence, idpCycle, edpRule, edpOccurrence, edpCycle, no-idp-cycle, no-edp-cycle}
 use Rattle.plans.proofs.Ordered.{CycleFree, never-stuck, free-ordered}
-use Rattle.cases.specs.First.{roomWalk, readyWalk, walk, Earlier, earlierWalk, earlierPlace, lowerOccurrence, lowerNumber, First}
+use Rattle.cases.specs.First.{roomWalk, readyWalk, walk, Earlier, earlierWalk, earlierPlace, lowerOccurrence, lowerNumber, FirstCase}
 use Rattle.cases.specs.PlanningCases.{PlanningCase}
 use Rattle.cases.specs.PlanningCases as case
 use Rattle.cases.proofs.FirstLaws.{later-walk, Found, nothing, fault}
@@ -77,7 +77,7 @@ module _ (g : List ℕ) (rowsLength planLength : ℕ) where
   room-order a b h (lowerOccurrence w e l) = omega arith
   room-order a b h (lowerNumber w e s l) = omega arith
 
-  first-rows : rowsLength < rowWords (rules g) → First g C (TooShort 0)
+  first-rows : rowsLength < rowWords (rules g) → FirstCase g C (TooShort 0)
   first-rows h = record { applies = case.rowsTooShort h; noEarlier = none }
     where
       none : (m : Refusal) → C m → ¬ Earlier g m (TooShort 0)
@@ -87,7 +87,7 @@ module _ (g : List ℕ) (rowsLength planLength : ℕ) where
       none m (case.edpCycle set v r o l p) e = later-walk g m (TooShort 0) (omega arith) e
       none m (case.noneReady set v r l p) e = later-walk g m (TooShort 0) (omega arith) e
 
-  first-plan : rowWords (rules g) ≤ rowsLength → planLength < planWords (rules g) → First g C (TooShort 1)
+  first-plan : rowWords (rules g) ≤ rowsLength → planLength < planWords (rules g) → FirstCase g C (TooShort 1)
   first-plan a h = record { applies = case.planTooShort h; noEarlier = none }
     where
       none : (m : Refusal) → C m → ¬ Earlier g m (TooShort 1)
@@ -117,7 +117,7 @@ module _ (g : List ℕ) (rowsLength planLength : ℕ) where
 
   module _ (good : readTable g ≡ Good) (rows : rowWords (rules g) ≤ rowsLength) (plan : planWords (rules g) ≤ planLength) where
     -- 9
-    first-idp : (r o : ℕ) → LowestCycle g (λ r o. IDP⁺ g r o o) r o → First g C (CircularIdp r o)
+    first-idp : (r o : ℕ) → LowestCycle g (λ r o. IDP⁺ g r o o) r o → FirstCase g C (CircularIdp r o)
     first-idp r o w = record { applies = case.idpCycle r o (w .counts) (w .on); noEarlier = none }
       where
         none : (m : Refusal) → C m → ¬ Earlier g m (CircularIdp r o)
@@ -128,7 +128,7 @@ module _ (g : List ℕ) (rowsLength planLength : ℕ) where
         none m (case.noneReady set v q l i) e = later-walk g m (CircularIdp r o) (omega arith) e
 
     -- 10
-    first-edp : (CircularIDP g → ⊥) → (r o : ℕ) → LowestCycle g (λ r o. OnCycle (EDP g (setNumber (setsFor g)) r) o) r o → First g C (CircularEdp r o)
+    first-edp : (CircularIDP g → ⊥) → (r o : ℕ) → LowestCycle g (λ r o. OnCycle (EDP g (setNumber (setsFor g)) r) o) r o → FirstCase g C (CircularEdp r o)
     first-edp free r o w = record { applies = case.edpCycle (computedSets g) (sets-exist g good free) r o (w .counts) (edp-paths-same g good free (computedSets g) (sets-exist g good free) r o o .0 (w .on)); noEarlier = none }
       where
         none : (m : Refusal) → C m → ¬ Earlier g m (CircularEdp r o)

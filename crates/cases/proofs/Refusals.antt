@@ -18,7 +18,7 @@ use Rattle.plans.specs.Answer.{accepted, outcome, answerOf}
 use Rattle.trees.specs.Checking.{checkTree}
 use Rattle.runs.specs.declared.Ran as R
 use Rattle.runner.specs.Whole.{answer}
-use Rattle.cases.specs.First.{First}
+use Rattle.cases.specs.First.{FirstCase}
 use Rattle.cases.specs.TableCases.{TableCase}
 use Rattle.cases.specs.PlanningCases.{PlanCase}
 use Rattle.cases.specs.TreeCases.{TreeCase}
@@ -31,7 +31,7 @@ use Rattle.cases.proofs.TreeTests.{tree-verdict}
 use Rattle.cases.proofs.RunTests as run
 
 -- the reader: 1 to 7
-pub table-refused : (g : List ℕ) (n : Refusal) → (readTable g ≡ Refused n) ↔ First g (TableCase g) n
+pub table-refused : (g : List ℕ) (n : Refusal) → (readTable g ≡ Refused n) ↔ FirstCase g (TableCase g) n
 table-refused g n = table-verdict g .refused n
 
 pub table-good : (g : List ℕ) → (readTable g ≡ Good) ↔ ((n : Refusal) → ¬ TableCase g n)
@@ -39,7 +39,7 @@ table-good g = table-verdict g .good
 
 -- the check of a tree, for a table that is read: 12 to 18
 pub tree-refused : (g t : List ℕ) (valuesLength : ℕ) → readTable g ≡ Good → (n : Refusal)
-    → (checkTree g t valuesLength ≡ Refused n) ↔ First g (TreeCase g t valuesLength) n
+    → (checkTree g t valuesLength ≡ Refused n) ↔ FirstCase g (TreeCase g t valuesLength) n
 tree-refused g t valuesLength good n = tree-verdict g t valuesLength (well-formed g good) .refused n
 
 pub tree-good : (g t : List ℕ) (valuesLength : ℕ) → readTable g ≡ Good

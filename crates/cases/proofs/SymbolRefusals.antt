@@ -21,12 +21,12 @@ use Rattle.grammar.proofs.VerdictLaws.{each-at}
 use Rattle.grammar.proofs.AcceptedSymbols.{ranged-passes, symbol-formed}
 use Rattle.cases.specs.TableCases.{TableCase}
 use Rattle.cases.specs.TableCases as case
-use Rattle.cases.proofs.PassedLaws.{Within, within-then, within-unless, within-each}
+use Rattle.cases.proofs.PassedLaws.{CasesWithin, within-then, within-unless, within-each}
 use Rattle.cases.proofs.TableKeys.{key, after-header, class-key, first-rule}
 
 module _ (g : List ℕ) where
   abbrev pub In : Verdict → ℕ → Type 1
-  In v end = Within (TableCase g) (key g) v end
+  In v end = CasesWithin (TableCase g) (key g) v end
 
   pub in-then : (v w : Verdict) (end : ℕ) → In v end → In w end → In (v then w) end
   in-then v w end p q = within-then (TableCase g) (key g) v w end p (λ e. q)

@@ -44,13 +44,13 @@ abbrev pub key : List ℕ → Refusal → ℕ
 key g n = 8 * turn g n + numberOf n
 
 -- in which walk a case has which turn
-pub data Turned (g : List ℕ) (n : Refusal) : Type 0 where
-  inSymbols : walk g n ≡ symbolWalk → turn g n ≡ 2 * placeOf n → placeOf n < ruleAt g 0 → Turned g n
-  atStart : walk g n ≡ startWalk → turn g n ≡ 2 * ruleAt g 0 - 1 → placeOf n ≡ 2 → Turned g n
-  inRules : walk g n ≡ ruleWalk → turn g n ≡ 2 * placeOf n → ruleAt g 0 ≤ placeOf n → Turned g n
+pub data HasTurn (g : List ℕ) (n : Refusal) : Type 0 where
+  inSymbols : walk g n ≡ symbolWalk → turn g n ≡ 2 * placeOf n → placeOf n < ruleAt g 0 → HasTurn g n
+  atStart : walk g n ≡ startWalk → turn g n ≡ 2 * ruleAt g 0 - 1 → placeOf n ≡ 2 → HasTurn g n
+  inRules : walk g n ≡ ruleWalk → turn g n ≡ 2 * placeOf n → ruleAt g 0 ≤ placeOf n → HasTurn g n
 
 module _ (g : List ℕ) where
-  at-word : (n : Refusal) → walk g n ≡ wordWalk g (placeOf n) → turn g n ≡ 2 * placeOf n → Turned g n
+  at-word : (n : Refusal) → walk g n ≡ wordWalk g (placeOf n) → turn g n ≡ 2 * placeOf n → HasTurn g n
   unfolding wordWalk
   at-word n w e =
       ⊎-elim (λ h. inSymbols (w ∙ chosen (ltb (placeOf n) (ruleAt g 0)) symbolWalk ruleWalk (lt→ltb _ _ h)) e h)
@@ -60,7 +60,7 @@ module _ (g : List ℕ) where
       e h)
       (below-or-not (placeOf n) (ruleAt g 0))
 
-  pub turned : (n : Refusal) → numberOf n ≤ 7 → Turned g n
+  pub turned : (n : Refusal) → numberOf n ≤ 7 → HasTurn g n
   turned (EndsEarly p) h = at-word (EndsEarly p) refl refl
   turned (OutOfRange p) h = at-word (OutOfRange p) refl refl
   turned (WrongClass p) h =

@@ -6,12 +6,11 @@ use mathlib.Core.List.{List}
 use native.Mathlib.Omega.{arith}
 use Rattle.refusals.specs.declared.Refusal.{Refusal}
 use Rattle.refusals.specs.Numbers.{numberOf, secondOf}
-use Rattle.grammar.specs.Reading.{leftOver}
 use Rattle.cases.specs.First.{ruleWalk, walk, Earlier, earlierWalk, earlierPlace, lowerOccurrence, lowerNumber}
 use Rattle.cases.proofs.FirstLaws.{later-walk}
 use Rattle.cases.specs.TableCases.{TableCase}
 use Rattle.cases.specs.TableCases as case
-use Rattle.cases.proofs.TableKeys.{Turned, inSymbols, atStart, inRules, turned, key, first-rule}
+use Rattle.cases.proofs.TableKeys.{HasTurn, inSymbols, atStart, inRules, turned, key, first-rule}
 
 module _ (g : List ℕ) where
   -- The cases are those of the walks over the words, and their order is that of their keys.
@@ -42,7 +41,7 @@ module _ (g : List ℕ) where
   pub table-walk : (n : Refusal) → TableCase g n → walk g n ≤ ruleWalk
   table-walk n c = go (turned g n (table-number n c .0))
     where
-      go : Turned g n → walk g n ≤ ruleWalk
+      go : HasTurn g n → walk g n ≤ ruleWalk
       go (inSymbols w e h) = omega arith
       go (atStart w e h) = omega arith
       go (inRules w e h) = omega arith
@@ -53,7 +52,7 @@ module _ (g : List ℕ) where
       small : (numberOf m ≤ 7) × (secondOf n ≡ 0)
       small = (table-number m c .0, table-number n d .1)
 
-      go : Turned g m → Turned g n → Earlier g m n → key g m < key g n
+      go : HasTurn g m → HasTurn g n → Earlier g m n → key g m < key g n
       go (inSymbols w e h) (inSymbols v f l) (earlierPlace a b) = omega (arith, small)
       go (inSymbols w e h) (inSymbols v f l) (earlierWalk a) = absurd (omega arith)
       go (inSymbols w e h) (inSymbols v f l) (lowerOccurrence a b k) = absurd (omega (arith, small))

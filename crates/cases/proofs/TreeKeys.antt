@@ -16,21 +16,21 @@ use Rattle.cases.specs.TreeCases.{TreeCase}
 use Rattle.cases.specs.TreeCases as case
 
 -- the walk of a case 12 to 18, by its number: 14 is met in the walk of 13
-abbrev step : Refusal → ℕ
-step n = cond (eqb (numberOf n) 14) 13 (numberOf n)
+abbrev treeWalk : Refusal → ℕ
+treeWalk n = cond (eqb (numberOf n) 14) 13 (numberOf n)
 
 -- the order of these cases as one number: by walk, then by node, 13 before 14
 abbrev pub key : List ℕ → Refusal → ℕ
-key t n = step n * (2 * nodes t + 2) + 2 * placeOf n + (numberOf n - step n)
+key t n = treeWalk n * (2 * nodes t + 2) + 2 * placeOf n + (numberOf n - treeWalk n)
 
 module _ (g t : List ℕ) (l : ℕ) where
   -- Where each case stands in the order.
   pub record Place (n : Refusal) : Type 0 where
     pub late : 8 ≤ walk g n
-    pub bounds : (step n ≤ numberOf n) × (numberOf n ≤ step n + 1)
+    pub bounds : (treeWalk n ≤ numberOf n) × (numberOf n ≤ treeWalk n + 1)
     pub node : placeOf n ≤ nodes t
     pub single : secondOf n ≡ 0
-    pub walkIs : ((walk g n ≤ 9) × (step n ≡ walk g n + 4)) ⊎ ((10 ≤ walk g n) × (step n ≡ walk g n + 5))
+    pub walkIs : ((walk g n ≤ 9) × (treeWalk n ≡ walk g n + 4)) ⊎ ((10 ≤ walk g n) × (treeWalk n ≡ walk g n + 5))
 
   pub tree-place : (n : Refusal) → TreeCase g t l n → Place n
   tree-place n (case.brokenNode c) =
@@ -59,10 +59,10 @@ module _ (g t : List ℕ) (l : ℕ) where
       record { late = omega arith; bounds = omega arith; node = omega arith; single = omega arith; walkIs = inr (omega arith) }
 
   -- The order of the cases is that of their keys.
-  later-step : (m n : Refusal) → Place m → Place n → walk g m < walk g n → step m < step n
+  later-step : (m n : Refusal) → Place m → Place n → walk g m < walk g n → treeWalk m < treeWalk n
   later-step m n x y s = ⊎-elim (λ u. ⊎-elim (λ v. omega arith) (λ v. omega arith) (y .walkIs)) (λ u. ⊎-elim (λ v. absurd (omega arith)) (λ v. omega arith) (y .walkIs)) (x .walkIs)
 
-  same-step : (m n : Refusal) → Place m → Place n → walk g m ≡ walk g n → step m ≡ step n
+  same-step : (m n : Refusal) → Place m → Place n → walk g m ≡ walk g n → treeWalk m ≡ treeWalk n
   same-step m n x y s =
       ⊎-elim (λ u. ⊎-elim (λ v. omega arith) (λ v. absurd (omega arith)) (y .walkIs)) (λ u. ⊎-elim (λ v. absurd (omega arith)) (λ v. omega arith) (y .walkIs)) (x .walkIs)
 
@@ -73,7 +73,7 @@ module _ (g t : List ℕ) (l : ℕ) where
       go x y (earlierWalk s) =
           omega (
             arith,
-            block-inside (2 * nodes t + 2) (step m) (2 * placeOf m + (numberOf m - step m)) (step n) (later-step m n x y s)
+            block-inside (2 * nodes t + 2) (treeWalk m) (2 * placeOf m + (numberOf m - treeWalk m)) (treeWalk n) (later-step m n x y s)
                 (omega (arith, x .bounds, x .node)),
           )
       go x y (earlierPlace w s) = omega (arith, ap (λ (k : ℕ). k * (2 * nodes t + 2)) (same-step m n x y w), x .bounds)

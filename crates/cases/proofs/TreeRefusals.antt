@@ -44,7 +44,7 @@ use Rattle.trees.specs.Formed.{ChildOf}
 use Rattle.trees.proofs.AcceptedTree.{used-slots, used-child, slot-names, names-slot}
 use Rattle.cases.specs.TreeCases.{NamesTerminal, TreeCase}
 use Rattle.cases.specs.TreeCases as case
-use Rattle.cases.proofs.PassedLaws.{Within, within-then, within-unless, within-each}
+use Rattle.cases.proofs.PassedLaws.{CasesWithin, within-then, within-unless, within-each}
 use Rattle.cases.proofs.TreeKeys.{key}
 
 -- two that pass, where two or more count
@@ -209,7 +209,7 @@ module _ (g t : List ℕ) (l : ℕ) (table : WellFormed g) where
 
   -- The parts of the check, and what each leaves for the next.
   abbrev In : Verdict → ℕ → Type 1
-  In v end = Within C (key t) v end
+  In v end = CasesWithin C (key t) v end
 
   unfoldable pub nodesPart : Verdict
   nodesPart = each (nodes t) (λ n. nodeFault g t n)

@@ -3,7 +3,7 @@
 use Prim.Native.Nat.{ℕ}
 use mathlib.Core.List.{List}
 use Rattle.refusals.specs.declared.Refusal.{Refusal}
-use Rattle.cases.specs.First.{First}
+use Rattle.cases.specs.First.{FirstCase}
 use Rattle.cases.specs.PlanningCases.{PlanCase}
 use Rattle.cases.specs.TreeCases.{TreeCase}
 
@@ -13,8 +13,8 @@ pub data RunCase (g : List ℕ) (rowsLength planLength : ℕ) (t : List ℕ) (va
 
 -- planning refuses with n: n is the first of the cases 1 to 11 that applies
 abbrev pub PlanRefuses : List ℕ → ℕ → ℕ → Refusal → Type 1
-PlanRefuses g rowsLength planLength n = First g (PlanCase g rowsLength planLength) n
+PlanRefuses g rowsLength planLength n = FirstCase g (PlanCase g rowsLength planLength) n
 
 -- a run refuses with n: n is the first of the cases 1 to 18 that applies
 abbrev pub Refuses : List ℕ → ℕ → ℕ → List ℕ → ℕ → Refusal → Type 1
-Refuses g rowsLength planLength t valuesLength n = First g (RunCase g rowsLength planLength t valuesLength) n
+Refuses g rowsLength planLength t valuesLength n = FirstCase g (RunCase g rowsLength planLength t valuesLength) n

@@ -92,11 +92,11 @@ pub data Earlier (g : List ℕ) (m n : Refusal) : Type 0 where
   lowerNumber : walk g m ≡ walk g n → placeOf m ≡ placeOf n → secondOf m ≡ secondOf n → numberOf m < numberOf n → Earlier g m n
 
 -- "the first fault answers": case n applies and none that is tested before it does
-pub record First (g : List ℕ) (Case : Refusal → Type 1) (n : Refusal) : Type 1 where
+pub record FirstCase (g : List ℕ) (Case : Refusal → Type 1) (n : Refusal) : Type 1 where
   pub applies : Case n
   pub noEarlier : (m : Refusal) → Case m → ¬ Earlier g m n
 
 -- a verdict goes by these cases: it is good exactly if none applies, and a refusal exactly if that is the first that applies
 pub record GoesBy (g : List ℕ) (Case : Refusal → Type 1) (v : Verdict) : Type 1 where
   pub good : (v ≡ Good) ↔ ((n : Refusal) → ¬ Case n)
-  pub refused : (n : Refusal) → (v ≡ Refused n) ↔ First g Case n
+  pub refused : (n : Refusal) → (v ≡ Refused n) ↔ FirstCase g Case n

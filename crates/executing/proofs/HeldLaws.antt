@@ -24,7 +24,7 @@ use Rattle.grammar.specs.Limits.{mostOccurrences, ruleWords}
 use Rattle.plans.specs.Sequences.{sequenceAt, actionAt}
 use Rattle.runs.specs.Automaton.{Machine, functionFor, act, step, after}
 use Rattle.runs.specs.Totals.{total}
-use Rattle.runs.specs.Balance.{Given, times}
+use Rattle.runs.specs.Balance.{RunGiven, times}
 use Rattle.runs.specs.Computing.{machineAt}
 use Rattle.runs.proofs.Steps.{action-of, step-on, times-same}
 use Rattle.runs.proofs.Moments.{before-total}
@@ -35,7 +35,7 @@ use Rattle.executing.specs.Runnable.{Runnable}
 use Rattle.executing.specs.State.{stackOf, placesOf, machineOf}
 use Rattle.executing.proofs.StateLaws.{stack-length, places-length, uncovered}
 
-pub facts-of : {g p t starts : List ℕ} {entry : List ℤ} → Runnable g p t starts entry → Given g p t (length entry)
+pub facts-of : {g p t starts : List ℕ} {entry : List ℤ} → Runnable g p t starts entry → RunGiven g p t (length entry)
 facts-of {g} {p} {t} {starts} {entry} k = given g p t entry (k .good) (k .sound) (k .tree)
 
 -- The arrays hold the automaton after `count` actions, with node n of rule r on top at a place.
@@ -55,7 +55,7 @@ module _ {g p t starts : List ℕ} {entry : List ℤ} {stack marks places : List
   k : Runnable g p t starts entry
   k = w .checked
 
-  pub facts : Given g p t (length entry)
+  pub facts : RunGiven g p t (length entry)
   facts = facts-of k
 
   -- ---- what the machine is

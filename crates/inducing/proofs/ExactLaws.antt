@@ -43,7 +43,7 @@ use Rattle.relations.proofs.Least.{ids-occurs}
 use Rattle.relations.proofs.Occurrences.{counts-below, occurs-below, occurs-inside, dp-sound, attribute-fits}
 use Rattle.relations.proofs.Rounds.{State, ids-state}
 use Rattle.relations.proofs.Induced.{ids-symbol}
-use Rattle.relations.proofs.ExactIdp.{Sound, Closed, paths-complete, ids-unique, idp-path-exact}
+use Rattle.relations.proofs.ExactIdp.{ArcsSound as Sound, Closed, paths-complete, ids-unique, idp-path-exact}
 use Rattle.closing.specs.Rows.{leads, arcsAt}
 use Rattle.closing.proofs.GatherLaws.{arc-at}
 use Rattle.plans.specs.Buffers.{over, rowsOf}

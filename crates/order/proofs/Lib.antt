@@ -1,5 +1,5 @@
 pub mod NeighbouringSets
 pub mod ExactEdp
 pub mod PaperSets
-pub mod Cycles
+pub mod CycleSearch
 pub mod WholeGrammar

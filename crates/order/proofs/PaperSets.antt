@@ -21,7 +21,7 @@ use Rattle.sets.specs.Paper.{Collection, Sets}
 use Rattle.sets.specs.Visits.{setNumber}
 use Rattle.sets.specs.Computed.{setsOf, setsOfSymbol}
 use Rattle.sets.proofs.Placing.{Arc}
-use Rattle.sets.proofs.SetWords.{words-are-the-sets, word-placed, word-only-first-empty, word-arcs-down}
+use Rattle.sets.proofs.SetWords.{words-are-the-sets, word-placed, word-arcs-down}
 use Rattle.order.specs.Paper.{EDP, Neighbouring, CircularIDP}
 use Rattle.order.proofs.NeighbouringSets.{same-paths-of-plan}
 
@@ -95,12 +95,6 @@ module _ (g : List ℕ) (good : readTable g ≡ Good) (none : CircularIDP g → 
     set-placed =
         word-placed g (idsOf g) x (omega (arith, formed .symbolsFit)) h k (formed .symbol x h .attributesFit) (arcs-transitive x h)
         (arcs-acyclic x h)
-
-    pub only-first-empty : (a j : ℕ) → a < attributes g x → 2 ≤ j → j ≤ setNumber (setsOf g (idsOf g)) x a
-        → (b : ℕ) × (b < attributes g x) × (setNumber (setsOf g (idsOf g)) x b ≡ j)
-    only-first-empty =
-        word-only-first-empty g (idsOf g) x (omega (arith, formed .symbolsFit)) h k (formed .symbol x h .attributesFit)
-        (arcs-transitive x h) (arcs-acyclic x h)
 
     -- an IDS arc never leads to a higher set
     pub ids-down : (a b : ℕ) → IDS g x a b → setNumber (setsOf g (idsOf g)) x b ≤ setNumber (setsOf g (idsOf g)) x a

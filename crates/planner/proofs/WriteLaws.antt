@@ -22,7 +22,7 @@ use Rattle.plans.specs.Answer.{edpPaths, sequencesOf, acceptedPlan}
 use Rattle.plans.proofs.Answers.{no-idp-cycle, no-edp-cycle}
 use Rattle.inducing.proofs.RuleRowLaws.{offset-is}
 use Rattle.plans.proofs.RowWords.{over-size, over-row}
-use Rattle.sequencing.specs.Given.{Given, written}
+use Rattle.sequencing.specs.Given.{RuleGiven as Given, withBlock as written}
 use Rattle.planner.specs.Stages.{Ordered, sets}
 
 -- a block written after what is already written

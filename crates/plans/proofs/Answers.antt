@@ -27,7 +27,7 @@ use Rattle.sets.specs.Visits.{setNumber}
 use Rattle.order.specs.Paper.{EDP, CircularIDP, Ordered, LowestCycle}
 use Rattle.order.specs.Computed.{circular, cycleRule, cycleOccurrence}
 use Rattle.order.proofs.ExactEdp.{edp-path-exact, edp-from}
-use Rattle.order.proofs.Cycles.{cycle-found, cycle-none}
+use Rattle.order.proofs.CycleSearch.{cycle-found, cycle-none}
 use Rattle.plans.specs.Answer.{
   circularIdp,
   unordered,

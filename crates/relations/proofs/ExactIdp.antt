@@ -49,8 +49,8 @@ use Rattle.relations.proofs.Least.{paths-idp, ids-occurs}
 
 module _ (g : List ℕ) where
   -- every arc of the state is an IDS arc
-  abbrev pub Sound : List ℕ → Type 0
-  Sound s = (x a b : ℕ) → b < mostAttributes → T (arcIn s x a b) → IDS g x a b
+  abbrev pub ArcsSound : List ℕ → Type 0
+  ArcsSound s = (x a b : ℕ) → b < mostAttributes → T (arcIn s x a b) → IDS g x a b
 
   -- the state has every arc that a path in some rule induces
   abbrev pub Closed : List ℕ → Type 0
@@ -58,7 +58,7 @@ module _ (g : List ℕ) where
       (r i x a b : ℕ) → Stands g r i x → a < attributes g x → b < attributes g x
       → Path⁺ (λ c d. T (idp g s r c d)) (occurrenceOf i a) (occurrenceOf i b) → T (arcIn s x a b)
 
-  module _ (s : List ℕ) (f : Sound s) where
+  module _ (s : List ℕ) (f : ArcsSound s) where
     induced-sound : (r a b : ℕ) → T (ruleCounts g r) → T (inducedArc g s r a b) → IDP g r a b
     unfolding inducedArc
     induced-sound r a b c t =
@@ -99,16 +99,16 @@ module _ (g : List ℕ) where
         in-rule _ x a b (r .0) (ltb→lt _ _ (and-left _ _ t)) (ltb→lt _ _ (and-left _ _ (and-right _ _ t))) (r .2) (omega arith)
 
   -- a round adds only IDS arcs, so after any number of rounds every arc is one
-  round-sound : (s : List ℕ) → Sound s → Sound (round g s)
+  round-sound : (s : List ℕ) → ArcsSound s → ArcsSound (round g s)
   round-sound s f x a b h t =
       let l = arc-inside g (round g s) (round-state g s) x a b t in
       ⊎-elim (λ o. f x a b h o) (λ i. is-induced-sound s f x a b i)
       (or-cases _ _ (subst (λ (c : Bool). T c) (round-arcs g s x a b (l .0) (l .1) h) t))
 
-  pub rounds-sound : (n : ℕ) → Sound (rounds g n (replicate (symbols g) 0))
-  rounds-sound n = rounds-keep g Sound round-sound n (replicate (symbols g) 0) (λ x a b h t. absurd (empty-arcs g x a b t))
+  pub rounds-sound : (n : ℕ) → ArcsSound (rounds g n (replicate (symbols g) 0))
+  rounds-sound n = rounds-keep g ArcsSound round-sound n (replicate (symbols g) 0) (λ x a b h t. absurd (empty-arcs g x a b t))
 
-  pub ids-sound : Sound (idsOf g)
+  pub ids-sound : ArcsSound (idsOf g)
   unfolding idsOf
   ids-sound = rounds-sound _
 
@@ -175,7 +175,7 @@ module _ (g : List ℕ) where
         (idp-path-computed (idsOf g) r (occurrenceOf i a) (occurrenceOf i b) (v .counts) .1 p))
 
     -- a state that is sound and closed is the computed one, whatever the order in which its arcs were found
-    pub ids-unique : (s : List ℕ) → State g s → Sound s → Closed s → s ≡ idsOf g
+    pub ids-unique : (s : List ℕ) → State g s → ArcsSound s → Closed s → s ≡ idsOf g
     ids-unique s v f c =
         state-ext g s (idsOf g) v (ids-state g)
         (λ x a b la lb.

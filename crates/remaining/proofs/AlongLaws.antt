@@ -22,27 +22,27 @@ use Rattle.remaining.proofs.MemberWalks.{first-member, was-left, gone}
 
 module _ (g s : List ℕ) (p visits₀ : ℕ) where
   -- the visits that are no longer left have their words
-  pub record Filling (left : ℕ) (down : List ℕ) : Type 0 where
+  pub record TakingAlong (left : ℕ) (down : List ℕ) : Type 0 where
     pub children : Children g s p visits₀
     pub size : length down ≡ 64
     pub within : (b : ℕ) → T (hasb b left) → T (hasb b visits₀)
     pub filled : (b : ℕ) → b < 64 → T (hasb b visits₀) → T (not (hasb b left)) → word down b ≡ takenAlong g s p b
 
-  pub filling-start : (down : List ℕ) → Children g s p visits₀ → length down ≡ 64 → Filling visits₀ down
+  pub filling-start : (down : List ℕ) → Children g s p visits₀ → length down ≡ 64 → TakingAlong visits₀ down
   filling-start down h e =
       record { children = h; size = e; within = λ b t. t; filled = λ b l t n. absurd (T-not (hasb b visits₀) n t) }
 
-  pub filling-child : (left : ℕ) (down : List ℕ) (b x : ℕ) → Filling left down → First left b → x ≡ symbolFrom g p (b / 8)
+  pub filling-child : (left : ℕ) (down : List ℕ) (b x : ℕ) → TakingAlong left down → First left b → x ≡ symbolFrom g p (b / 8)
       → b % 8 + 1 ≤ visits s x + 1
   filling-child left down b x w f e =
       omega (arith, w .children b (f .small) (w .within b (first-member left b f)), ap (λ (y : ℕ). visits s y) e)
 
-  pub filling-turn : (left : ℕ) (down : List ℕ) (b x mask part next : ℕ) → Filling left down → First left b → x ≡ symbolFrom g p (b / 8)
+  pub filling-turn : (left : ℕ) (down : List ℕ) (b x mask part next : ℕ) → TakingAlong left down → First left b → x ≡ symbolFrom g p (b / 8)
       → mask ≡ inheritedMask s x (b % 8 + 1) → part ≡ raised (8 * (b / 8)) mask → next ≡ remove (lowest 64 left) left
-      → Filling next (set down b part)
+      → TakingAlong next (set down b part)
   unfolding takenAlong
   filling-turn left down b x mask part next w f e m q n =
-      subst⁻¹ (λ (y : ℕ). Filling y (set down b part)) (rest-of left b next f n)
+      subst⁻¹ (λ (y : ℕ). TakingAlong y (set down b part)) (rest-of left b next f n)
       (record {
         children = w .children;
         size = length-set down b part ∙ w .size;
@@ -58,7 +58,7 @@ module _ (g s : List ℕ) (p visits₀ : ℕ) where
             (same-or-not k b);
       })
 
-  pub filling-finish : (left : ℕ) (down : List ℕ) → Filling left down → left ≡ 0 → Along g s p visits₀ down
+  pub filling-finish : (left : ℕ) (down : List ℕ) → TakingAlong left down → left ≡ 0 → Along g s p visits₀ down
   filling-finish left down w e =
       record { is = λ b h t. w .filled b h t (subst⁻¹ (λ (x : ℕ). T (not (hasb b x))) e (none-left b)) }
 

@@ -40,10 +40,9 @@ use Rattle.bits.proofs.MemberLaws.{
 use Rattle.bits.proofs.RestLaws.{rest-of}
 use Rattle.sets.specs.Visits.{visits}
 use Rattle.access.specs.ByPlace.{symbolFrom}
-use Rattle.remaining.specs.RuleSets.{synthesizedMask, Leaves, leaveFree, others, leaveReady, readyLeaves}
+use Rattle.remaining.specs.RuleSets.{synthesizedMask, LeftLeaves, leaveFree, others, leaveReady, readyLeaves}
 use Rattle.remaining.proofs.MaskLaws.{no-member}
 use Rattle.remaining.proofs.MemberWalks.{first-member, under-first}
-use Rattle.remaining.proofs.VisitSetLaws.{rest, later}
 
 module _ (g s : List ℕ) (p computes calls leaves waiting : ℕ) where
   -- a leave that is left and ready
@@ -144,5 +143,5 @@ module _ (g s : List ℕ) (p computes calls leaves waiting : ℕ) where
       (not-T (eqb (remove b leaves) 0) (λ t. z (rest-of leaves b later f n ∙ eqb→eq (remove b leaves) 0 t))))))
 
   -- the next leave hands up the attributes of one of its symbol's visits
-  pub leave-inside : (b x : ℕ) → Leaves g s p leaves → First leaves b → x ≡ symbolFrom g p 0 → b + 1 ≤ visits s x
+  pub leave-inside : (b x : ℕ) → LeftLeaves g s p leaves → First leaves b → x ≡ symbolFrom g p 0 → b + 1 ≤ visits s x
   leave-inside b x h f e = omega (arith, h b (first-member leaves b f), ap (λ (y : ℕ). visits s y) e)

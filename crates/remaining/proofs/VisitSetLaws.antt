@@ -78,7 +78,7 @@ module _ (down : List ℕ) (visits₀ waiting : ℕ) where
     abbrev test : Bool
     test = eqb (common (getD down b 0) waiting) 0
 
-    abbrev pub rest : ℕ
+    abbrev rest : ℕ
     rest = minus left (raised (8 * (b / 8)) 255)
 
     left-out : (k : ℕ) → T (not (hasb k rest)) → (k / 8 ≡ b / 8) ⊎ T (not (hasb k left))
@@ -111,7 +111,7 @@ module _ (down : List ℕ) (visits₀ waiting : ℕ) where
     by-ready t = and-right _ _ t
 
     -- a later visit of the same child is not the next
-    pub later : (k : ℕ) → k / 8 ≡ b / 8 → (k ≡ b → ⊥) → T (hasb k left) → T (visitReady down visits₀ waiting k) → ⊥
+    later : (k : ℕ) → k / 8 ≡ b / 8 → (k ≡ b → ⊥) → T (hasb k left) → T (visitReady down visits₀ waiting k) → ⊥
     unfolding visitReady
     later k e n t u =
         ⊎-elim (λ l. under-first left b k f l t)

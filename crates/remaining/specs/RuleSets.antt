@@ -71,8 +71,8 @@ handedDown g s p b = inheritedMask s (symbolFrom g p 0) (b + 2)
 abbrev pub Children : List ℕ → List ℕ → ℕ → ℕ → Type 0
 Children g s p left = (b : ℕ) → b < 64 → T (hasb b left) → b % 8 < visits s (symbolFrom g p (b / 8))
 
-abbrev pub Leaves : List ℕ → List ℕ → ℕ → ℕ → Type 0
-Leaves g s p left = (b : ℕ) → T (hasb b left) → b < visits s (symbolFrom g p 0)
+abbrev pub LeftLeaves : List ℕ → List ℕ → ℕ → ℕ → Type 0
+LeftLeaves g s p left = (b : ℕ) → T (hasb b left) → b < visits s (symbolFrom g p 0)
 
 -- what visit b takes along, and a table of it for the visits that are left
 unfoldable pub takenAlong : List ℕ → List ℕ → ℕ → ℕ → ℕ

@@ -191,7 +191,7 @@ pub fn ready_visits(down: &[u64; 64], visits: u64, waiting: u64) -> u64
 // The leaves that are ready. Only the next one can be: the last one where nothing else is left, another where nothing that it hands up waits.
 pub fn ready_leaves(words: &[u16], p: usize, sets: &[u16], state: State) -> u64
     requires { ⌜ p < 65536 ⌝ }
-    requires { ⌜ masks.Leaves (now words) (now sets) p (state .leaves) ⌝ }
+    requires { ⌜ masks.LeftLeaves (now words) (now sets) p (state .leaves) ⌝ }
     ensures { λ r. ⌜ r ≡ masks.readyLeaves (now (words .entry)) (now (sets .entry)) p (state .computes) (state .visits) (state .leaves) (state .waiting) ⌝ }
 {
     if state.leaves == 0 {

@@ -20,14 +20,14 @@ use Rattle.trees.specs.Definers.{DefinedAt}
 use Rattle.trees.proofs.Cells.{node-at-inside, node-at-symbol, applies-nonterminal}
 use Rattle.plans.specs.Sequences.{actionAt}
 use Rattle.runs.specs.Sound.{ofTerminal, ofFirstVisit, Available, always, made}
-use Rattle.runs.specs.Balance.{Given}
+use Rattle.runs.specs.Balance.{RunGiven}
 use Rattle.runs.specs.Computing.{machineAt, Computing, ComputedBefore}
 use Rattle.runs.proofs.SequenceCounts.{belongs-at, rule-sound, done-leave, done-visit}
 use Rattle.runs.proofs.Balance.{rule-known, top-left}
 use Rattle.runs.proofs.ComputedOnce.{balanced-at, computing-place, computing-defined}
 use Rattle.runs.proofs.HandedOver.{places, passed, b, n-inside, n-applies, n-rule, handed-down, handed-up}
 
-module _ {g p t : List ℕ} {l : ℕ} (given : Given g p t l) (values : List ℤ) where
+module _ {g p t : List ℕ} {l : ℕ} (given : RunGiven g p t l) (values : List ℤ) where
   module _ (k n : ℕ) (rest : List ℕ) (top : machineAt g p t values k .stack ≡ n ∷ rest) where
     -- what is available has been computed, or is a terminal's
     available-computed : (x : ℕ) → T (occurrence g (ruleOf t n) x) → Available g p (ruleOf t n) (word (places given values k) n) x

@@ -21,11 +21,11 @@ use Rattle.trees.proofs.Cells.{applies-nonterminal}
 use Rattle.plans.specs.Sequences.{sequenceLength, actionAt}
 use Rattle.runs.specs.Automaton.{started}
 use Rattle.runs.specs.Counts.{leavesDone, visitsDone}
-use Rattle.runs.specs.Balance.{Given, times, leavesAt, visitsAt, Balanced}
+use Rattle.runs.specs.Balance.{RunGiven, times, leavesAt, visitsAt, Balanced}
 use Rattle.runs.proofs.SequenceCounts.{leaves-start, visits-start, leaves-left, visits-most}
 use Rattle.runs.proofs.Steps.{all-zero, times-same, times-other, times-none, top-inside, top-applies, top-once}
 
-module _ {g p t : List ℕ} {l : ℕ} (given : Given g p t l) where
+module _ {g p t : List ℕ} {l : ℕ} (given : RunGiven g p t l) where
   -- a node's rule is one of the table's
   pub rule-known : (n : ℕ) → n < nodes t → T (appliesRule t n) → ruleOf t n < rules g
   rule-known n h a = given .tree .ruleKnown n h a

@@ -20,12 +20,12 @@ use Rattle.trees.proofs.Cells.{nonterminal-applies, child-of}
 use Rattle.plans.specs.Sequences.{sequenceLength, actionAt}
 use Rattle.runs.specs.Automaton.{started, act, actionOf, stepOn, step, after}
 use Rattle.runs.specs.Counts.{leaveNumber, visitNumber, leavesDone, visitsDone}
-use Rattle.runs.specs.Balance.{Given, times, leavesAt, visitsAt, Balanced}
+use Rattle.runs.specs.Balance.{RunGiven, times, leavesAt, visitsAt, Balanced}
 use Rattle.runs.proofs.SequenceCounts.{leaves-same, leaves-more, visits-same, visits-more, visit-same, visit-other}
 use Rattle.runs.proofs.Steps.{times-same, times-other, path-rest}
 use Rattle.runs.proofs.Balance.{n-inside, top-left, n-applies, top-action, started-balanced}
 
-module _ {g p t : List ℕ} {l : ℕ} (given : Given g p t l) where
+module _ {g p t : List ℕ} {l : ℕ} (given : RunGiven g p t l) where
   module _ (n : ℕ) (rest places : List ℕ) (b : Balanced g p t (n ∷ rest) places) where
     moved : List ℕ
     moved = set places n (suc (word places n))

@@ -18,15 +18,15 @@ use Rattle.trees.specs.Definers.{DefinedAt, Definer, AttributeOf}
 use Rattle.trees.proofs.Cells.{cell-is, one-definer, definer, defined-occurs, defined-applies, occurrence-attribute, attribute-eight}
 use Rattle.plans.specs.Sequences.{sequenceLength, actionAt}
 use Rattle.runs.specs.Totals.{total}
-use Rattle.runs.specs.Balance.{Given, Balanced}
+use Rattle.runs.specs.Balance.{RunGiven, Balanced}
 use Rattle.runs.specs.Computing.{machineAt, OnTop, Computing, AboutTo}
 use Rattle.runs.proofs.SequenceCounts.{same-action, action-there}
 use Rattle.runs.proofs.Steps.{action-of, top-inside, top-applies}
 use Rattle.runs.proofs.Balance.{rule-known, top-left, top-action}
 use Rattle.runs.proofs.BalanceKept.{after-balanced}
-use Rattle.runs.proofs.Moments.{moment, one-moment, before-total}
+use Rattle.runs.proofs.Moments.{moment, one-moment}
 
-module _ {g p t : List ℕ} {l : ℕ} (given : Given g p t l) (values : List ℤ) where
+module _ {g p t : List ℕ} {l : ℕ} (given : RunGiven g p t l) (values : List ℤ) where
   -- the balance, with the stack as it is known
   pub balanced-at : (k n : ℕ) (rest : List ℕ) → machineAt g p t values k .stack ≡ n ∷ rest
       → Balanced g p t (n ∷ rest) (machineAt g p t values k .places)
@@ -138,7 +138,3 @@ module _ {g p t : List ℕ} {l : ℕ} (given : Given g p t l) (values : List ℤ
       let b8 : b < 8 = attribute-eight (given .table) (given .tree) m b (w .4) in
       let same : m ≡ n = omega arith in
       T-not (appliesRule t n) s (subst (λ (x : ℕ). T (appliesRule t x)) same (w .3))
-
-  -- what is about to be computed is so before the total
-  pub about-before-total : (k c : ℕ) → AboutTo g p t values k c → k < total p t
-  about-before-total k c v = before-total given values k (v .node) (v .computing .rest) (v .computing .stackIs)

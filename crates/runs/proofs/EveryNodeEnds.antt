@@ -18,12 +18,12 @@ use Rattle.trees.proofs.AcceptedTree.{rule-symbol}
 use Rattle.plans.specs.Sequences.{sequenceLength}
 use Rattle.runs.specs.Sound.{SymbolSound}
 use Rattle.runs.specs.Counts.{visitsDone}
-use Rattle.runs.specs.Balance.{Given, leavesAt, Balanced}
+use Rattle.runs.specs.Balance.{RunGiven, leavesAt, Balanced}
 use Rattle.runs.proofs.SequenceCounts.{leaves-end, visits-all}
 use Rattle.runs.proofs.Steps.{times-none}
 use Rattle.runs.proofs.Balance.{rule-known, child-left, child-nonterminal}
 
-module _ {g p t : List ℕ} {l : ℕ} (given : Given g p t l) where
+module _ {g p t : List ℕ} {l : ℕ} (given : RunGiven g p t l) where
   -- "the start uses set 1 only": it has one visit
   start-once : visits p (start g) ≡ 1
   unfolding visits lastSet

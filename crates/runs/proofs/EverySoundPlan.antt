@@ -29,7 +29,7 @@ use Rattle.plans.specs.Answer.{accepted as planned}
 use Rattle.runs.specs.Totals.{total}
 use Rattle.runs.specs.Run.{Ended, ran, runAnswer, valuesAfter}
 use Rattle.runs.specs.Depth.{longestDown}
-use Rattle.runs.specs.Balance.{Given, times, Balanced}
+use Rattle.runs.specs.Balance.{RunGiven, times, Balanced}
 use Rattle.runs.specs.Computing.{machineAt, Computing, AboutTo, ComputedBefore, ExactlyOnce}
 use Rattle.runs.proofs.Steps.{top-inside, top-applies, no-node-twice}
 use Rattle.runs.proofs.Balance.{top-left}
@@ -55,7 +55,7 @@ use Rattle.runs.proofs.StackDepth.{stack-depth, stack-fits}
 
 module _ (g p t : List ℕ) (values : List ℤ) (good : readTable g ≡ Good) (sound : Sound g p) (tree : checkTree g t (length values) ≡ Good) where
   -- what the run is given
-  pub given : Given g p t (length values)
+  pub given : RunGiven g p t (length values)
   given = record { table = accepted g good; sound = sound; tree = accepted-tree g t (length values) (accepted g good) tree }
 
   -- "done with its count of actions", which is what the lengths of the nodes' sequences add up to

@@ -34,7 +34,7 @@ use Rattle.trees.proofs.Cells.{
 }
 use Rattle.plans.specs.Sequences.{actionAt}
 use Rattle.runs.specs.Sound.{Before}
-use Rattle.runs.specs.Balance.{Given, leavesAt, visitsAt, Balanced}
+use Rattle.runs.specs.Balance.{RunGiven, leavesAt, visitsAt, Balanced}
 use Rattle.runs.specs.Computing.{machineAt, ComputedBefore}
 use Rattle.runs.proofs.SequenceCounts.{rule-sound, leave-done, visit-done}
 use Rattle.runs.proofs.Steps.{top-inside, top-applies, top-once, above-top}
@@ -42,7 +42,7 @@ use Rattle.runs.proofs.Balance.{rule-known, child-nonterminal}
 use Rattle.runs.proofs.Moments.{earlier}
 use Rattle.runs.proofs.ComputedOnce.{balanced-at, top-computing}
 
-module _ {g p t : List ℕ} {l : ℕ} (given : Given g p t l) (values : List ℤ) where
+module _ {g p t : List ℕ} {l : ℕ} (given : RunGiven g p t l) (values : List ℤ) where
   unfoldable pub places : ℕ → List ℕ
   places k = machineAt g p t values k .places
 

@@ -15,7 +15,7 @@ use Rattle.trees.specs.Tree.{nodes, ruleOf, appliesRule}
 use Rattle.plans.specs.Sequences.{sequenceLength}
 use Rattle.runs.specs.Automaton.{Machine, started, actionOf, stepOn, step, after}
 use Rattle.runs.specs.Totals.{total}
-use Rattle.runs.specs.Balance.{Given, Balanced}
+use Rattle.runs.specs.Balance.{RunGiven, Balanced}
 use Rattle.runs.specs.Computing.{machineAt, OnTop}
 use Rattle.runs.proofs.Steps.{all-zero, step-on, act-places, top-inside}
 use Rattle.runs.proofs.BalanceKept.{after-balanced}
@@ -28,7 +28,7 @@ empty-stays g p t m e =
     ap (λ (s : List ℕ). stepOn g p t s (m .places) (m .values)) e
     ∙ ap (λ (s : List ℕ). record { stack = s; places = m .places; values = m .values }) (sym e)
 
-module _ {g p t : List ℕ} {l : ℕ} (given : Given g p t l) (values : List ℤ) where
+module _ {g p t : List ℕ} {l : ℕ} (given : RunGiven g p t l) (values : List ℤ) where
   placeAt : ℕ → ℕ → ℕ
   placeAt k n = word (machineAt g p t values k .places) n
 

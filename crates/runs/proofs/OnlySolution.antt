@@ -18,13 +18,13 @@ use Rattle.trees.proofs.AcceptedTree.{terminal-symbol}
 use Rattle.trees.proofs.Cells.{cell-is, symbol-known, occurrence-attribute}
 use Rattle.trees.proofs.EquationLaws.{same-function}
 use Rattle.runs.specs.Totals.{total}
-use Rattle.runs.specs.Balance.{Given}
+use Rattle.runs.specs.Balance.{RunGiven}
 use Rattle.runs.specs.Computing.{machineAt, Computing, AboutTo}
 use Rattle.runs.proofs.ComputedOnce.{computing-defined, attribute-computed}
 use Rattle.runs.proofs.AfterArguments.{after-arguments}
 use Rattle.runs.proofs.Solved.{solved, terminals-stay}
 
-module _ {g p t : List ℕ} (values : List ℤ) (given : Given g p t (length values)) where
+module _ {g p t : List ℕ} (values : List ℤ) (given : RunGiven g p t (length values)) where
   -- a node that applies no rule is a terminal
   terminal-kind : (n : ℕ) → n < nodes t → T (not (appliesRule t n)) → kind g (symbolAtNode g t n) ≡ 1
   terminal-kind n h s =

@@ -12,12 +12,12 @@ use Rattle.trees.specs.Tree.{appliesRule, symbolAtNode, valueWords}
 use Rattle.trees.specs.Equations.{valueAt}
 use Rattle.trees.specs.Definers.{AttributeOf}
 use Rattle.trees.proofs.Cells.{attribute-eight}
-use Rattle.runs.specs.Balance.{Given}
+use Rattle.runs.specs.Balance.{RunGiven}
 use Rattle.runs.specs.Computing.{machineAt}
 use Rattle.runs.proofs.ComputedOnce.{only-attributes}
 use Rattle.runs.proofs.Solved.{never-computed}
 
-module _ {g p t : List ℕ} (values : List ℤ) (given : Given g p t (length values)) where
+module _ {g p t : List ℕ} (values : List ℤ) (given : RunGiven g p t (length values)) where
   -- a cell that is no attribute of a nonterminal node stays
   pub others-stay : (c k : ℕ) → ((n a : ℕ) → c ≡ 8 * n + a → T (appliesRule t n) → AttributeOf g t n a → ⊥)
       → valueAt (machineAt g p t values k .values) c ≡ valueAt values c

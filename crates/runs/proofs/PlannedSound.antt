@@ -31,7 +31,7 @@ use Rattle.sets.proofs.Classes.{odd-synthesized}
 use Rattle.sequences.specs.Actions.{Action, compute, visit, leave, decode, belongs, isAction, makes, inheritedOf}
 use Rattle.sequences.specs.Order.{sequenceOf}
 use Rattle.sequences.proofs.OrderlyRules.{Orderly}
-use Rattle.sequences.specs.Paper.{Earlier}
+use Rattle.sequences.specs.Paper.{DoneBefore}
 use Rattle.sequences.proofs.SequenceLaws.{nothing-else, each-once, every-action, handed-down, handed-up}
 use Rattle.sequences.proofs.VisitsRise.{visits-rise, leaves-rise, ended-by-last-leave}
 use Rattle.sequences.proofs.AvailableFirst.{arguments-first}
@@ -66,7 +66,7 @@ module _ (g : List ℕ) (good : readTable g ≡ Good) (lent : List ℕ) where
     stands : SequenceStands p r out
     stands = sequence-stands g lent r h
 
-    earlier-before : (j a : ℕ) → j ≤ length out → Earlier out j a → Before p r j a
+    earlier-before : (j a : ℕ) → j ≤ length out → DoneBefore out j a → Before p r j a
     earlier-before j a l w =
         record { place = w .place; earlier = w .earlier; actionIs = stands .actionIs (w .place) (omega (arith, w .earlier)) ∙ w .standsThere }
 
@@ -143,7 +143,7 @@ module _ (g : List ℕ) (good : readTable g ≡ Good) (lent : List ℕ) where
 
           available : (j a : ℕ) → j < length (sequenceOf g (idsOf g) s r)
               → T (not (nonterminal g (symbolOf g r (position a)))) ⊎ (T (inheritedOf g s r 0 1 a)
-              ⊎ ((e : ℕ) × Earlier (sequenceOf g (idsOf g) s r) j e × T (makes g s r (decode e) a)))
+              ⊎ ((e : ℕ) × DoneBefore (sequenceOf g (idsOf g) s r) j e × T (makes g s r (decode e) a)))
               → Available g p r j a
           available j a l (inl t) = Available.always (FromStart.ofTerminal t)
           available j a l (inr (inl t)) = Available.always (FromStart.ofFirstVisit (inherited-forth g s p w back r h 0 1 a t))

@@ -12,7 +12,7 @@ use Rattle.runs.specs.declared.Ran as R
 use Rattle.runs.specs.Automaton.{Machine, started, step, after}
 use Rattle.runs.specs.Totals.{total}
 use Rattle.runs.specs.Run.{Ended, idle, lastAnswer, runOn, ran}
-use Rattle.runs.specs.Balance.{Given}
+use Rattle.runs.specs.Balance.{RunGiven}
 use Rattle.runs.proofs.StepsCounted.{busy, empty-after}
 
 -- a run that is done, and one that is stopped
@@ -46,7 +46,7 @@ module _ (g p t : List ℕ) where
   unfolding runOn idle lastAnswer stopped
   busy-last k m n rest e = ap (λ (s : List ℕ). record { answer = lastAnswer (idle s) k; machine = m }) e
 
-module _ {g p t : List ℕ} {l : ℕ} (given : Given g p t l) (values : List ℤ) where
+module _ {g p t : List ℕ} {l : ℕ} (given : RunGiven g p t l) (values : List ℤ) where
   at : ℕ → Machine
   at k = after g p t k (started t values)
 

@@ -16,7 +16,7 @@ use Rattle.trees.specs.Equations.{valueAt}
 use Rattle.trees.specs.Definers.{AttributeOf}
 use Rattle.trees.proofs.Cells.{attribute-eight}
 use Rattle.runs.specs.Totals.{total}
-use Rattle.runs.specs.Balance.{Given}
+use Rattle.runs.specs.Balance.{RunGiven}
 use Rattle.runs.specs.Computing.{machineAt}
 use Rattle.runs.proofs.ValuesWritten.{values-length}
 use Rattle.runs.proofs.Solved.{solved, terminals-stay}
@@ -24,7 +24,7 @@ use Rattle.runs.proofs.OnlySolution.{only-solution}
 use Rattle.runs.proofs.OthersStay.{others-stay}
 
 -- two sound plans for one grammar leave the same values
-pub same-values : {g p q t : List ℕ} (values : List ℤ) → Given g p t (length values) → Given g q t (length values)
+pub same-values : {g p q t : List ℕ} (values : List ℤ) → RunGiven g p t (length values) → RunGiven g q t (length values)
     → machineAt g p t values (total p t) .values ≡ machineAt g q t values (total q t) .values
 same-values {g} {p} {q} {t} values v w =
     ext-getD (pos 0) (machineAt g p t values (total p t) .values) (machineAt g q t values (total q t) .values)

@@ -183,10 +183,6 @@ module _ {g p : List ℕ} (table : WellFormed g) (sound : Sound g p) where
               same-action j k h l (leave-number j a ∙ (ap leave e ∙ sym (leave-number k (omega arith))));
         }
 
-    no-leave-yet : (k : ℕ) → k ≤ sequenceLength p r → leavesDone p r k ≤ visits p (symbolOf g r 0)
-    unfolding leavesDone
-    no-leave-yet k h = ranked-most leave-ranks k h
-
     -- where a leave is not yet done an action is left
     pub leaves-left : (k : ℕ) → k ≤ sequenceLength p r → leavesDone p r k < visits p (symbolOf g r 0) → k < sequenceLength p r
     unfolding leavesDone

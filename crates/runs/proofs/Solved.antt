@@ -17,14 +17,14 @@ use Rattle.trees.proofs.Cells.{cell-is, attribute-eight, applies-nonterminal}
 use Rattle.trees.proofs.EquationLaws.{same-function}
 use Rattle.runs.specs.Automaton.{started, after}
 use Rattle.runs.specs.Totals.{total}
-use Rattle.runs.specs.Balance.{Given}
+use Rattle.runs.specs.Balance.{RunGiven}
 use Rattle.runs.specs.Computing.{machineAt, Computing, AboutTo}
 use Rattle.runs.proofs.ComputedOnce.{computed-once, defined-computed, no-terminal}
 use Rattle.runs.proofs.AfterArguments.{after-arguments}
 use Rattle.runs.proofs.ValuesWritten.{stays-between, compute-writes}
 use Rattle.basics.proofs.TestLaws.{tested}
 
-module _ {g p t : List ℕ} (values : List ℤ) (given : Given g p t (length values)) where
+module _ {g p t : List ℕ} (values : List ℤ) (given : RunGiven g p t (length values)) where
   final : List ℤ
   final = machineAt g p t values (total p t) .values
 

@@ -16,7 +16,7 @@ use Rattle.sets.proofs.Visits.{highest-bounds, highest-reached}
 use Rattle.trees.specs.Tree.{mostNodes, nodes, ruleOf, appliesRule, child}
 use Rattle.trees.specs.Formed.{ChildOf}
 use Rattle.runs.specs.Depth.{PathDown, depthBelow, longestDown}
-use Rattle.runs.specs.Balance.{Given}
+use Rattle.runs.specs.Balance.{RunGiven}
 use Rattle.runs.specs.Computing.{machineAt}
 use Rattle.runs.proofs.Steps.{top-inside, top-applies}
 use Rattle.runs.proofs.BalanceKept.{after-balanced}
@@ -70,7 +70,7 @@ module _ (g t : List ℕ) where
   some-fuel zero n h = absurd (omega arith)
   some-fuel (suc d) n h = omega arith
 
-module _ {g p t : List ℕ} {l : ℕ} (given : Given g p t l) where
+module _ {g p t : List ℕ} {l : ℕ} (given : RunGiven g p t l) where
   -- the nodes of a path rise, so it has no more nodes than its last node's number says
   path-short : (c : ℕ) (rest : List ℕ) → PathDown g t (c ∷ rest) → length rest ≤ c
   path-short c [] w = omega arith

@@ -16,7 +16,7 @@ use Rattle.trees.proofs.Cells.{root-applies}
 use Rattle.plans.specs.Sequences.{actionAt}
 use Rattle.runs.specs.Automaton.{Machine, act, actionOf, stepOn, step}
 use Rattle.runs.specs.Depth.{PathDown}
-use Rattle.runs.specs.Balance.{Given, times}
+use Rattle.runs.specs.Balance.{RunGiven, times}
 
 -- a list of zeros is 0 everywhere
 pub all-zero : (n i : ℕ) → word (replicate n 0) i ≡ 0
@@ -69,7 +69,7 @@ pub times-none : (n : ℕ) → times n [] ≡ 0
 unfolding times
 times-none n = refl
 
-module _ {g p t : List ℕ} {l : ℕ} (given : Given g p t l) where
+module _ {g p t : List ℕ} {l : ℕ} (given : RunGiven g p t l) where
   -- the top of the stack is a node of the tree
   pub top-inside : (n : ℕ) (rest : List ℕ) → PathDown g t (n ∷ rest) → n < nodes t
   top-inside n [] w = omega (arith, given .tree .someNode)

@@ -16,7 +16,7 @@ use Rattle.trees.specs.Tree.{nodes, ruleOf, appliesRule}
 use Rattle.plans.specs.Sequences.{sequenceLength}
 use Rattle.runs.specs.Automaton.{Machine, started, actionOf, step, after}
 use Rattle.runs.specs.Totals.{totalUpTo, total}
-use Rattle.runs.specs.Balance.{Given, Balanced}
+use Rattle.runs.specs.Balance.{RunGiven, Balanced}
 use Rattle.runs.proofs.Steps.{all-zero, step-on, act-places, top-inside, top-applies}
 use Rattle.runs.proofs.Balance.{top-left}
 use Rattle.runs.proofs.BalanceKept.{after-balanced}
@@ -110,7 +110,7 @@ walked-on t places m (suc k) h l a =
     here true i d e = omega arith
     here false i d e = absurd i
 
-module _ {g p t : List ℕ} {l : ℕ} (given : Given g p t l) (values : List ℤ) where
+module _ {g p t : List ℕ} {l : ℕ} (given : RunGiven g p t l) (values : List ℤ) where
   at : ℕ → Machine
   at k = after g p t k (started t values)
 

@@ -11,7 +11,7 @@ use Rattle.grammar.specs.Limits.{ruleWords}
 use Rattle.trees.specs.Tree.{nodes, ruleOf, appliesRule}
 use Rattle.plans.specs.Sequences.{sequenceLength}
 use Rattle.runs.specs.Totals.{totalUpTo, total}
-use Rattle.runs.specs.Balance.{Given}
+use Rattle.runs.specs.Balance.{RunGiven}
 use Rattle.runs.proofs.SequenceCounts.{rule-sound}
 
 -- sequences of at most 111 actions add up to at most 111 a node
@@ -27,7 +27,7 @@ total-most p t (suc k) f = go (appliesRule t k) refl (total-most p t k (λ n h. 
     go false e h = omega arith
 
 -- the total of a sound plan is at most 111 actions a node
-pub total-bound : {g p t : List ℕ} {l : ℕ} → Given g p t l → total p t ≤ 111 * nodes t
+pub total-bound : {g p t : List ℕ} {l : ℕ} → RunGiven g p t l → total p t ≤ 111 * nodes t
 unfolding total
 total-bound {g} {p} {t} given =
     total-most p t (nodes t) (λ n h a. rule-sound (given .table) (given .sound) (ruleOf t n) (given .tree .ruleKnown n h a) .fits)

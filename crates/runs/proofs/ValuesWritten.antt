@@ -18,7 +18,7 @@ use Rattle.trees.specs.Equations.{valueAt, functionValue}
 use Rattle.trees.specs.Definers.{DefinedAt}
 use Rattle.trees.proofs.Cells.{cell-inside, defined-occurs}
 use Rattle.runs.specs.Automaton.{Machine, started, functionFor, computed, act, actionOf, after}
-use Rattle.runs.specs.Balance.{Given}
+use Rattle.runs.specs.Balance.{RunGiven}
 use Rattle.runs.specs.Computing.{machineAt, Computing, AboutTo}
 use Rattle.runs.proofs.Steps.{step-on}
 use Rattle.runs.proofs.Moments.{empty-stays}
@@ -29,25 +29,25 @@ module _ (g p t : List ℕ) (values : List ℤ) where
   valuesAt k = machineAt g p t values k .values
 
   -- what the next action does to the values
-  data Written (k : ℕ) : Type 0 where
-    writes : (n o : ℕ) → Computing g p t values k n o → valuesAt (suc k) ≡ computed g t (valuesAt k) n o → Written k
-    keeps : valuesAt (suc k) ≡ valuesAt k → Written k
+  data ValueWritten (k : ℕ) : Type 0 where
+    writes : (n o : ℕ) → Computing g p t values k n o → valuesAt (suc k) ≡ computed g t (valuesAt k) n o → ValueWritten k
+    keeps : valuesAt (suc k) ≡ valuesAt k → ValueWritten k
 
-  written : (k : ℕ) → Written k
+  written : (k : ℕ) → ValueWritten k
   unfolding valuesAt after act
   written k = go (machineAt g p t values k .stack) refl
     where
       m : Machine
       m = machineAt g p t values k
 
-      by-action : (n : ℕ) (rest : List ℕ) → m .stack ≡ n ∷ rest → (a : Action) → actionOf p t (m .places) n ≡ a → Written k
+      by-action : (n : ℕ) (rest : List ℕ) → m .stack ≡ n ∷ rest → (a : Action) → actionOf p t (m .places) n ≡ a → ValueWritten k
       by-action n rest e (compute o) d =
           writes n o (record { rest = rest; stackIs = e; actionIs = d }) (ap (λ (q : Machine). q .values) (step-on g p t m n rest (compute o) e d))
       by-action n rest e (visit i v) d = keeps (ap (λ (q : Machine). q .values) (step-on g p t m n rest (visit i v) e d))
       by-action n rest e (leave v) d = keeps (ap (λ (q : Machine). q .values) (step-on g p t m n rest (leave v) e d))
       by-action n rest e none d = keeps (ap (λ (q : Machine). q .values) (step-on g p t m n rest none e d))
 
-      go : (s : List ℕ) → m .stack ≡ s → Written k
+      go : (s : List ℕ) → m .stack ≡ s → ValueWritten k
       go [] e = keeps (ap (λ (q : Machine). q .values) (empty-stays g p t m e))
       go (n ∷ rest) e = by-action n rest e (actionOf p t (m .places) n) refl
 
@@ -61,7 +61,7 @@ module _ (g p t : List ℕ) (values : List ℤ) where
   values-length zero = refl
   values-length (suc k) = go (written k) (values-length k)
     where
-      go : Written k → length (valuesAt k) ≡ length values → length (valuesAt (suc k)) ≡ length values
+      go : ValueWritten k → length (valuesAt k) ≡ length values → length (valuesAt (suc k)) ≡ length values
       go (writes n o w e) h = ap (λ (v : List ℤ). length v) e ∙ (computed-length n o (valuesAt k) ∙ h)
       go (keeps e) h = ap (λ (v : List ℤ). length v) e ∙ h
 
@@ -69,7 +69,7 @@ module _ (g p t : List ℕ) (values : List ℤ) where
   unfolding computed
   cell-stays k c none′ = go (written k)
     where
-      go : Written k → valueAt (valuesAt (suc k)) c ≡ valueAt (valuesAt k) c
+      go : ValueWritten k → valueAt (valuesAt (suc k)) c ≡ valueAt (valuesAt k) c
       go (writes n o w e) =
           ap (λ (v : List ℤ). valueAt v c) e
           ∙ getD-set-other (valuesAt k) (cell t n o) c _ (pos 0)
@@ -100,7 +100,7 @@ function-for {g} table r f h s =
       lowest = λ k q e. table .function r f h s .targetOnce k q (eqb→eq (target g r k) (target g r f) e);
     })
 
-module _ {g p t : List ℕ} (values : List ℤ) (given : Given g p t (length values)) where
+module _ {g p t : List ℕ} (values : List ℤ) (given : RunGiven g p t (length values)) where
   -- a compute writes the value of its function, by the values before it
   pub compute-writes : (k n f : ℕ) → f < functions g (ruleOf t n) → Computing g p t values k n (target g (ruleOf t n) f)
       → valueAt (machineAt g p t values (suc k) .values) (cell t n (target g (ruleOf t n) f))

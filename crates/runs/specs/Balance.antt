@@ -16,7 +16,7 @@ use Rattle.runs.specs.Counts.{leavesDone, visitsDone}
 use Rattle.runs.specs.Depth.{PathDown}
 
 -- what a run is given: a well-formed table, a sound plan for it, a well-formed tree with this many values
-pub record Given (g p t : List ℕ) (valuesLength : ℕ) : Type 0 where
+pub record RunGiven (g p t : List ℕ) (valuesLength : ℕ) : Type 0 where
   pub table : WellFormed g
   pub sound : Sound g p
   pub tree : TreeFormed g t valuesLength

@@ -1,7 +1,7 @@
 -- Actions and their numbers: every number below 136 is the number of exactly one action, computes below 64, visits below 128, then the leaves.
 -- Assumes nothing.
 use Prim.Native.Nat.{ℕ, _+_, _*_, _-_, _/_, _%_, _≤_, _<_}
-use mathlib.Core.Path.{_≡_, refl, sym, _∙_, ap, subst⁻¹}
+use mathlib.Core.Path.{_≡_, refl, sym, _∙_, ap}
 use mathlib.Core.Logic.{⊎-elim}
 use mathlib.Core.Bool.{not}
 use native.Mathlib.Omega.{arith}
@@ -87,16 +87,6 @@ number-decode n h = go (decoded n)
     go (isCompute o l e d) = ap numberOf d ∙ sym e
     go (isVisit i m l p q e d) = ap numberOf d ∙ sym e
     go (isLeave m p q e d) = ap numberOf d ∙ sym e
-    go (isNone l d) = absurd (omega arith)
-
--- and its action is in range
-pub decode-range : (n : ℕ) → n < actionNumbers → InRange (decode n)
-decode-range n h = go (decoded n)
-  where
-    go : Decoded n → InRange (decode n)
-    go (isCompute o l e d) = subst⁻¹ (λ (a : Action). InRange a) d l
-    go (isVisit i m l p q e d) = subst⁻¹ (λ (a : Action). InRange a) d (l, p, q)
-    go (isLeave m p q e d) = subst⁻¹ (λ (a : Action). InRange a) d (p, q)
     go (isNone l d) = absurd (omega arith)
 
 -- two numbers below 136 with one action are one

@@ -43,14 +43,14 @@ use Rattle.sequences.specs.Actions.{
 }
 use Rattle.sequences.specs.Follows.{follows}
 use Rattle.sequences.specs.Order.{sequenceOf}
-use Rattle.sequences.specs.Paper.{Earlier}
+use Rattle.sequences.specs.Paper.{DoneBefore}
 use Rattle.sequences.proofs.ActionNumbers.{decode-compute, number-decode}
 use Rattle.sequences.proofs.ActionLaws.{ChildVisit, LeftLeave, belongs-compute, action-belongs, action-below}
 use Rattle.sequences.proofs.MakesLaws.{of-inherited, of-synthesized, makes-compute, compute-makes, visit-makes, leave-makes}
 use Rattle.grammar.proofs.OccurrenceLaws.{left-defining, child-defining}
 use Rattle.sequences.proofs.FollowsLaws.{compute-after}
 use Rattle.sequences.proofs.OrderlyRules.{Orderly, fits, arc-starts, setAt, set-low}
-use Rattle.sequences.proofs.SequenceTie.{size, actionAt}
+use Rattle.sequences.proofs.SequenceTie.{size, standsAt}
 use Rattle.sequences.proofs.SequenceLaws.{
   defining-fits,
   compute-stands,
@@ -138,25 +138,25 @@ module _ (g ids s : List ℕ) (r : ℕ) where
               (tested (inheritedAt g r a))
 
       -- where a compute stands, its occurrence is its number
-      compute-there : (j o : ℕ) → j < size g ids s r → decode (actionAt g ids s r j) ≡ compute o → (actionAt g ids s r j ≡ o) × T (defining g r o)
+      compute-there : (j o : ℕ) → j < size g ids s r → decode (standsAt g ids s r j) ≡ compute o → (standsAt g ids s r j ≡ o) × T (defining g r o)
       compute-there j o l d = (
-        sym (number-decode (actionAt g ids s r j) (action-below g s r (actionAt g ids s r j) (nothing-else g ids s r j l))) ∙ ap numberOf d,
-        belongs-compute g s r o (action-belongs g s r (actionAt g ids s r j) (compute o) d (nothing-else g ids s r j l)),
+        sym (number-decode (standsAt g ids s r j) (action-below g s r (standsAt g ids s r j) (nothing-else g ids s r j l))) ∙ ap numberOf d,
+        belongs-compute g s r o (action-belongs g s r (standsAt g ids s r j) (compute o) d (nothing-else g ids s r j l)),
       )
 
       -- what an EDP arc leads from is a terminal's, or available from the start, or some action before the compute makes it so
-      pub available-first : (j o a : ℕ) → j < size g ids s r → decode (actionAt g ids s r j) ≡ compute o → T (edp g ids s r a o)
+      pub available-first : (j o a : ℕ) → j < size g ids s r → decode (standsAt g ids s r j) ≡ compute o → T (edp g ids s r a o)
           → T (not (nonterminal g (symbolOf g r (position a)))) ⊎ (T (inheritedOf g s r 0 1 a)
-          ⊎ ((e : ℕ) × Earlier (sequenceOf g ids s r) j e × T (makes g s r (decode e) a)))
+          ⊎ ((e : ℕ) × DoneBefore (sequenceOf g ids s r) j e × T (makes g s r (decode e) a)))
       available-first j o a l d arc =
           let t : T (occurrence g r a) = arc-starts g ids s r h a o arc in
           ⊎-elim (λ n. inr (⊎-elim (λ f. inl f) (λ w. inr (w .0, before (w .0) (w .1) (w .2) t, w .2)) (maker a t n))) (λ n. inl n)
           (tested (nonterminal g (symbolOf g r (position a))))
         where
           before : (e : ℕ) → T (isAction g s r e) → T (makes g s r (decode e) a) → T (occurrence g r a)
-              → Earlier (sequenceOf g ids s r) j e
+              → DoneBefore (sequenceOf g ids s r) j e
           before e u m t =
-              let c : (actionAt g ids s r j ≡ o) × T (defining g r o) = compute-there j o l d in
+              let c : (standsAt g ids s r j ≡ o) × T (defining g r o) = compute-there j o l d in
               let k : o < mostOccurrences = defining-fits g ids s r h o (c .1) in
               stands-after g ids s r j l e u
               (subst⁻¹ (λ (b : ℕ). T (follows g ids s r b e)) (c .0)
@@ -169,10 +169,10 @@ module _ (g ids s : List ℕ) (r : ℕ) where
               m arc))
 
       -- "each compute follows what makes its arguments available"
-      pub arguments-first : (j o k i : ℕ) → j < size g ids s r → decode (actionAt g ids s r j) ≡ compute o → k < functions g r → target g r k ≡ o
+      pub arguments-first : (j o k i : ℕ) → j < size g ids s r → decode (standsAt g ids s r j) ≡ compute o → k < functions g r → target g r k ≡ o
           → i < arguments g r k
           → T (not (nonterminal g (symbolOf g r (position (argument g r k i))))) ⊎ (T (inheritedOf g s r 0 1 (argument g r k i))
-          ⊎ ((e : ℕ) × Earlier (sequenceOf g ids s r) j e × T (makes g s r (decode e) (argument g r k i))))
+          ⊎ ((e : ℕ) × DoneBefore (sequenceOf g ids s r) j e × T (makes g s r (decode e) (argument g r k i))))
       unfolding edp
       arguments-first j o k i l d f e p =
           available-first j o (argument g r k i) l d

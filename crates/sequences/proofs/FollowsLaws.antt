@@ -18,7 +18,7 @@ use Rattle.sequences.proofs.ActionNumbers.{decode-compute}
 use Rattle.sequences.proofs.MakesLaws.{compute-makes}
 
 -- an EDP arc links what two actions make available
-pub record Linked (g ids s : List ℕ) (r : ℕ) (later earlier : Action) : Type 0 where
+pub record LinkedByArc (g ids s : List ℕ) (r : ℕ) (later earlier : Action) : Type 0 where
   pub source : ℕ
   pub goal : ℕ
   pub sourceFits : source < mostOccurrences
@@ -29,7 +29,7 @@ pub record Linked (g ids s : List ℕ) (r : ℕ) (later earlier : Action) : Type
 
 module _ (g ids s : List ℕ) (r : ℕ) where
   -- the test of a link finds the arc
-  pub linked-find : (later earlier : Action) → T (linked g ids s r later earlier) → Linked g ids s r later earlier
+  pub linked-find : (later earlier : Action) → T (linked g ids s r later earlier) → LinkedByArc g ids s r later earlier
   unfolding linked
   linked-find later earlier t =
       let v = some-find mostOccurrences
@@ -46,7 +46,7 @@ module _ (g ids s : List ℕ) (r : ℕ) where
       }
 
   -- and passes where there is one
-  pub linked-at : (later earlier : Action) → Linked g ids s r later earlier → T (linked g ids s r later earlier)
+  pub linked-at : (later earlier : Action) → LinkedByArc g ids s r later earlier → T (linked g ids s r later earlier)
   unfolding linked
   linked-at later earlier w =
       some-at mostOccurrences
@@ -57,7 +57,7 @@ module _ (g ids s : List ℕ) (r : ℕ) where
 
   -- an action follows a different one for one of two reasons
   pub follows-cases : (later earlier : ℕ) → T (follows g ids s r later earlier)
-      → (later ≡ earlier → ⊥) × (Linked g ids s r (decode later) (decode earlier) ⊎ T (besides g s r (decode later) (decode earlier)))
+      → (later ≡ earlier → ⊥) × (LinkedByArc g ids s r (decode later) (decode earlier) ⊎ T (besides g s r (decode later) (decode earlier)))
   unfolding follows
   follows-cases later earlier t = (
     λ e. T-not (eqb later earlier) (and-left _ _ t) (eq-T later earlier e),
@@ -65,7 +65,7 @@ module _ (g ids s : List ℕ) (r : ℕ) where
   )
 
   -- "An action follows a different one where an EDP arc links what they make available."
-  pub follows-linked : (later earlier : ℕ) → (later ≡ earlier → ⊥) → Linked g ids s r (decode later) (decode earlier)
+  pub follows-linked : (later earlier : ℕ) → (later ≡ earlier → ⊥) → LinkedByArc g ids s r (decode later) (decode earlier)
       → T (follows g ids s r later earlier)
   unfolding follows
   follows-linked later earlier n w =

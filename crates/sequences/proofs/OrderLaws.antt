@@ -13,7 +13,7 @@ use Rattle.basics.proofs.TestLaws.{true-T, false-T, T-false, same-or-not}
 use Rattle.basics.proofs.ListLaws.{member-cases, member-none}
 use Rattle.sequences.specs.Actions.{actionNumbers}
 use Rattle.sequences.specs.Order.{ready, firstReady, order}
-use Rattle.sequences.specs.Paper.{Earlier}
+use Rattle.sequences.specs.Paper.{DoneBefore}
 use Rattle.sequences.proofs.Rising.{
   Rising,
   member-first,
@@ -59,20 +59,20 @@ module _ (after : ℕ → ℕ → Bool) where
           nothing i (λ b k s. ⊎-elim (λ i. unready e b i s) (λ n. f b n s) (member-cases b x xs k))
 
   -- the steps of the construction: it stops where none is ready, or takes the lowest ready one
-  data Step (n : ℕ) (remaining : List ℕ) : Type 0 where
-    stops : NoneReady after remaining remaining → order after (suc n) remaining ≡ [] → Step n remaining
+  data OrderStep (n : ℕ) (remaining : List ℕ) : Type 0 where
+    stops : NoneReady after remaining remaining → order after (suc n) remaining ≡ [] → OrderStep n remaining
     takes : (a : ℕ) → T (member a remaining) → T (ready after remaining a)
         → ((b : ℕ) → T (member b remaining) → b < a → T (ready after remaining b) → ⊥)
-        → order after (suc n) remaining ≡ a ∷ order after n (without a remaining) → Step n remaining
+        → order after (suc n) remaining ≡ a ∷ order after n (without a remaining) → OrderStep n remaining
 
-  step : (n : ℕ) (remaining : List ℕ) → Rising remaining → Numbers remaining → Step n remaining
+  step : (n : ℕ) (remaining : List ℕ) → Rising remaining → Numbers remaining → OrderStep n remaining
   unfolding order
   step n remaining r below = go (firstReady after remaining remaining 136) refl (first-ready remaining remaining 136 r)
     where
       at : ℕ → Bool → List ℕ
       at m b = elim b [ true ↦ [] | false ↦ m ∷ order after n (without m remaining) ]
 
-      go : (m : ℕ) → firstReady after remaining remaining 136 ≡ m → Picked after remaining remaining 136 m → Step n remaining
+      go : (m : ℕ) → firstReady after remaining remaining 136 ≡ m → Picked after remaining remaining 136 m → OrderStep n remaining
       go m e (found k t f) =
           takes m k t f
           (ap (λ (x : ℕ). at x (eqb x 136)) e
@@ -93,7 +93,7 @@ module _ (after : ℕ → ℕ → Bool) where
       (λ a m. order-tie n (without a remaining) (omega (arith, length-without a remaining r m)) (rising-without a remaining r)
       (below-without remaining a below))
     where
-      go : Step n remaining
+      go : OrderStep n remaining
           → ((a : ℕ) → T (member a remaining) → TieRule after (without a remaining) (order after n (without a remaining)))
           → TieRule after remaining (order after (suc n) remaining)
       go (stops f e) ih = subst⁻¹ (λ (l : List ℕ). TieRule after remaining l) e (tie-stops after remaining f)
@@ -129,7 +129,7 @@ module _ (after : ℕ → ℕ → Bool) where
       (λ a m. order-all n (without a remaining) (omega (arith, length-without a remaining r m)) (rising-without a remaining r)
       (below-without remaining a below) (λ xs l f. some xs l (λ b k. without-member a remaining b (f b k) .0)))
     where
-      go : Step n remaining → ((a : ℕ) → T (member a remaining) → length (order after n (without a remaining)) ≡ n)
+      go : OrderStep n remaining → ((a : ℕ) → T (member a remaining) → length (order after n (without a remaining)) ≡ n)
           → length (order after (suc n) remaining) ≡ suc n
       go (stops f e) ih =
           let w : (a : ℕ) × T (member a remaining) × T (ready after remaining a) = some remaining (omega arith) (λ a m. m) in
@@ -138,7 +138,7 @@ module _ (after : ℕ → ℕ → Bool) where
 
   -- where it orders as many as there are, every one of them stands in it
   pub order-complete : (n : ℕ) (remaining : List ℕ) → length remaining ≡ n → Rising remaining → Numbers remaining
-      → length (order after n remaining) ≡ n → (a : ℕ) → T (member a remaining) → Earlier (order after n remaining) n a
+      → length (order after n remaining) ≡ n → (a : ℕ) → T (member a remaining) → DoneBefore (order after n remaining) n a
   unfolding order
   order-complete zero [] h r below full a m = absurd (member-none a m)
   order-complete zero (x ∷ xs) h r below full a m = absurd (omega arith)
@@ -146,13 +146,13 @@ module _ (after : ℕ → ℕ → Bool) where
       (λ x k. order-complete n (without x remaining) (omega (arith, length-without x remaining r k)) (rising-without x remaining r)
       (below-without remaining x below))
     where
-      go : Step n remaining
+      go : OrderStep n remaining
           → ((x : ℕ) → T (member x remaining) → length (order after n (without x remaining)) ≡ n
-          → (a : ℕ) → T (member a (without x remaining)) → Earlier (order after n (without x remaining)) n a)
-          → Earlier (order after (suc n) remaining) (suc n) a
+          → (a : ℕ) → T (member a (without x remaining)) → DoneBefore (order after n (without x remaining)) n a)
+          → DoneBefore (order after (suc n) remaining) (suc n) a
       go (stops f e) ih = absurd (omega (arith, ap (λ (l : List ℕ). length l) e))
       go (takes x k t f e) ih =
-          subst⁻¹ (λ (l : List ℕ). Earlier l (suc n) a) e
+          subst⁻¹ (λ (l : List ℕ). DoneBefore l (suc n) a) e
           (⊎-elim (λ i. record { place = 0; earlier = omega arith; standsThere = sym i })
           (λ i.
           earlier-rest x (order after n (without x remaining)) n a

@@ -38,7 +38,7 @@ use Rattle.sequences.specs.Actions.{
 }
 use Rattle.sequences.specs.Follows.{beforeVisit, beforeLeave, besides, follows}
 use Rattle.sequences.specs.Order.{sequenceOf}
-use Rattle.sequences.specs.Paper.{Belongs, Follows, Earlier, May, TieRule, Sequence, LeftOut}
+use Rattle.sequences.specs.Paper.{Belongs, Follows, DoneBefore, May, TieRule, Sequence, LeftOut}
 use Rattle.sequences.specs.Paper as paper
 use Rattle.sequences.proofs.ActionNumbers.{decode-injective, number-decode}
 use Rattle.sequences.proofs.ActionLaws.{member-actions, actions-member, actions-below}
@@ -221,7 +221,7 @@ none-left-out g good o set sets r counts left =
     let one : left .out ≡ sequenceOf g (idsOf g) (setsOf g (idsOf g)) r = sequence-only g good free set sets r counts (left .out) (left .sequence) in
     let a : T (member (left .action) (actionsOf g (setsOf g (idsOf g)) r)) = paper-member g good free set sets r counts (left .action) (left .belongs) in
     left .nowhere
-    (subst⁻¹ (λ (l : List ℕ). Earlier l (length l) (left .action)) one
+    (subst⁻¹ (λ (l : List ℕ). DoneBefore l (length l) (left .action)) one
     (every-action g (idsOf g) (setsOf g (idsOf g)) r
     (orderly g good free (ordered-back g good free (o .set) (o .areSets) (o .noCycle)) r counts) (left .action)
     (actions-member g (setsOf g (idsOf g)) r (left .action) a)))

@@ -7,7 +7,7 @@ use mathlib.Core.Bool.{Bool, true, false, cond}
 use mathlib.Core.List.{List, [], _∷_, _++_}
 use native.Mathlib.Omega.{arith}
 use lib.Dec.{T, eqb, eqb→eq, eqb-refl, T-not}
-use lib.ListN.{length, getD, length-append}
+use lib.ListN.{length, length-append}
 use Rattle.basics.specs.Tests.{count}
 use Rattle.basics.specs.Lists.{member, without, passing}
 use Rattle.basics.proofs.TestLaws.{or-left, or-right, true-T, false-T, eq-T, below-or-not}
@@ -27,12 +27,6 @@ member-first x ys = or-left (eqb x x) (member x ys) (eqb-refl x)
 pub member-rest : (x y : ℕ) (ys : List ℕ) → T (member x ys) → T (member x (y ∷ ys))
 unfolding member
 member-rest x y ys t = or-right (eqb x y) (member x ys) t
-
--- what stands at a place is a member
-pub getD-member : (xs : List ℕ) (j d : ℕ) → j < length xs → T (member (getD xs j d) xs)
-getD-member [] j d h = absurd (omega arith)
-getD-member (x ∷ xs) zero d h = member-first x xs
-getD-member (x ∷ xs) (suc j) d h = member-rest (getD xs j d) x xs (getD-member xs j d (omega arith))
 
 -- rising lists end to end, the second above the first
 pub rising-append : (s t : List ℕ) → Rising s → Rising t → ((x y : ℕ) → T (member x s) → T (member y t) → x < y) → Rising (s ++ t)

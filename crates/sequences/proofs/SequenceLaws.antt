@@ -25,7 +25,7 @@ use Rattle.sequences.specs.Actions.{
 }
 use Rattle.sequences.specs.Follows.{follows}
 use Rattle.sequences.specs.Order.{sequenceOf}
-use Rattle.sequences.specs.Paper.{Earlier}
+use Rattle.sequences.specs.Paper.{DoneBefore}
 use Rattle.sequences.proofs.TieLaws.{tie-remains, tie-once, tie-after}
 use Rattle.sequences.proofs.OrderLaws.{order-short, order-complete}
 use Rattle.sequences.proofs.ActionNumbers.{decode-compute, decode-number, decode-injective}
@@ -51,7 +51,7 @@ use Rattle.grammar.proofs.OccurrenceLaws.{left-defining, child-defining}
 use Rattle.sequences.proofs.FollowsLaws.{visit-after-compute, leave-after-compute}
 use Rattle.sequences.proofs.OrderlyRules.{Orderly, fits}
 use Rattle.sequences.proofs.AlwaysReady.{sequence-whole}
-use Rattle.sequences.proofs.SequenceTie.{size, actionAt, sequence-tie}
+use Rattle.sequences.proofs.SequenceTie.{size, standsAt, sequence-tie}
 
 module _ (g ids s : List ℕ) (r : ℕ) where
   -- "A sequence has at most 104 actions."
@@ -61,41 +61,41 @@ module _ (g ids s : List ℕ) (r : ℕ) where
       omega (arith, order-short (λ a b. follows g ids s r a b) (length (actionsOf g s r)) (actionsOf g s r), at-most-104 g s r five)
 
   -- the sequence has nothing but the rule's actions
-  pub nothing-else : (j : ℕ) → j < size g ids s r → T (isAction g s r (actionAt g ids s r j))
+  pub nothing-else : (j : ℕ) → j < size g ids s r → T (isAction g s r (standsAt g ids s r j))
   nothing-else j h =
-      actions-member g s r (actionAt g ids s r j)
+      actions-member g s r (standsAt g ids s r j)
       (tie-remains (λ a b. follows g ids s r a b) (actionsOf g s r) (sequenceOf g ids s r) (sequence-tie g ids s r) j h)
 
   -- each once
-  pub each-once : (j k : ℕ) → j < size g ids s r → k < size g ids s r → actionAt g ids s r j ≡ actionAt g ids s r k → j ≡ k
+  pub each-once : (j k : ℕ) → j < size g ids s r → k < size g ids s r → standsAt g ids s r j ≡ standsAt g ids s r k → j ≡ k
   each-once = tie-once (λ a b. follows g ids s r a b) (actionsOf g s r) (sequenceOf g ids s r) (sequence-tie g ids s r)
 
   -- and each after all that it follows
-  pub stands-after : (j : ℕ) → j < size g ids s r → (b : ℕ) → T (isAction g s r b) → T (follows g ids s r (actionAt g ids s r j) b)
-      → Earlier (sequenceOf g ids s r) j b
+  pub stands-after : (j : ℕ) → j < size g ids s r → (b : ℕ) → T (isAction g s r b) → T (follows g ids s r (standsAt g ids s r j) b)
+      → DoneBefore (sequenceOf g ids s r) j b
   stands-after j h b t f =
       tie-after (λ a b. follows g ids s r a b) (actionsOf g s r) (sequenceOf g ids s r) (sequence-tie g ids s r) j h b (member-actions g s r b t) f
 
   -- places of one action are one
-  pub same-place : (j k : ℕ) → j < size g ids s r → k < size g ids s r → decode (actionAt g ids s r j) ≡ decode (actionAt g ids s r k) → j ≡ k
+  pub same-place : (j k : ℕ) → j < size g ids s r → k < size g ids s r → decode (standsAt g ids s r j) ≡ decode (standsAt g ids s r k) → j ≡ k
   same-place j k l m e =
       each-once j k l m
-      (decode-injective (actionAt g ids s r j) (actionAt g ids s r k) (action-below g s r (actionAt g ids s r j) (nothing-else j l))
-      (action-below g s r (actionAt g ids s r k) (nothing-else k m)) e)
+      (decode-injective (standsAt g ids s r j) (standsAt g ids s r k) (action-below g s r (standsAt g ids s r j) (nothing-else j l))
+      (action-below g s r (standsAt g ids s r k) (nothing-else k m)) e)
 
   -- a visit, or a leave, that stands in the sequence belongs to the rule
-  pub visit-there : (j i n : ℕ) → j < size g ids s r → decode (actionAt g ids s r j) ≡ visit i n → ChildVisit g s r i n
-  visit-there j i n l d = belongs-visit g s r i n (action-belongs g s r (actionAt g ids s r j) (visit i n) d (nothing-else j l))
+  pub visit-there : (j i n : ℕ) → j < size g ids s r → decode (standsAt g ids s r j) ≡ visit i n → ChildVisit g s r i n
+  visit-there j i n l d = belongs-visit g s r i n (action-belongs g s r (standsAt g ids s r j) (visit i n) d (nothing-else j l))
 
-  pub leave-there : (j n : ℕ) → j < size g ids s r → decode (actionAt g ids s r j) ≡ leave n → LeftLeave g s r n
-  leave-there j n l d = belongs-leave g s r n (action-belongs g s r (actionAt g ids s r j) (leave n) d (nothing-else j l))
+  pub leave-there : (j n : ℕ) → j < size g ids s r → decode (standsAt g ids s r j) ≡ leave n → LeftLeave g s r n
+  leave-there j n l d = belongs-leave g s r n (action-belongs g s r (standsAt g ids s r j) (leave n) d (nothing-else j l))
 
   module _ (h : Orderly g ids s r) where
     -- the sequence has every action of the rule
-    pub every-action : (a : ℕ) → T (isAction g s r a) → Earlier (sequenceOf g ids s r) (size g ids s r) a
+    pub every-action : (a : ℕ) → T (isAction g s r a) → DoneBefore (sequenceOf g ids s r) (size g ids s r) a
     unfolding sequenceOf
     every-action a t =
-        subst⁻¹ (λ (n : ℕ). Earlier (sequenceOf g ids s r) n a) (sequence-whole g ids s r h)
+        subst⁻¹ (λ (n : ℕ). DoneBefore (sequenceOf g ids s r) n a) (sequence-whole g ids s r h)
         (order-complete (λ a b. follows g ids s r a b) (length (actionsOf g s r)) (actionsOf g s r) refl (actions-rise g s r)
         (actions-below g s r) (sequence-whole g ids s r h) a (member-actions g s r a t))
 
@@ -106,21 +106,21 @@ module _ (g ids s : List ℕ) (r : ℕ) where
     compute-stands o t = belongs-action g s r o (compute o) (decode-compute o (defining-fits o t)) (compute-belongs g s r o t)
 
     -- "each visit follows the computes that it hands over"
-    pub handed-down : (j i n o : ℕ) → j < size g ids s r → decode (actionAt g ids s r j) ≡ visit i n → T (inheritedOf g s r i n o)
-        → Earlier (sequenceOf g ids s r) j o
+    pub handed-down : (j i n o : ℕ) → j < size g ids s r → decode (standsAt g ids s r j) ≡ visit i n → T (inheritedOf g s r i n o)
+        → DoneBefore (sequenceOf g ids s r) j o
     handed-down j i n o l d t =
         let w = inherited-of g s r i n o t in
         let c : ChildVisit g s r i n = visit-there j i n l d in
         stands-after j l o (compute-stands o (child-defining g r o (w .0 .occurs) (omega (arith, c .child, w .0 .stands)) (w .1)))
-        (visit-after-compute g ids s r (actionAt g ids s r j) i n o d (fits g ids s r h o (w .0 .occurs)) t)
+        (visit-after-compute g ids s r (standsAt g ids s r j) i n o d (fits g ids s r h o (w .0 .occurs)) t)
 
     -- "each leave follows the computes that it hands over"
-    pub handed-up : (j n o : ℕ) → j < size g ids s r → decode (actionAt g ids s r j) ≡ leave n → T (synthesizedOf g s r 0 n o)
-        → Earlier (sequenceOf g ids s r) j o
+    pub handed-up : (j n o : ℕ) → j < size g ids s r → decode (standsAt g ids s r j) ≡ leave n → T (synthesizedOf g s r 0 n o)
+        → DoneBefore (sequenceOf g ids s r) j o
     handed-up j n o l d t =
         let w = synthesized-of g s r 0 n o t in
         stands-after j l o (compute-stands o (left-defining g r o (w .0 .occurs) (w .0 .stands) (w .1)))
-        (leave-after-compute g ids s r (actionAt g ids s r j) n o d (fits g ids s r h o (w .0 .occurs)) t)
+        (leave-after-compute g ids s r (standsAt g ids s r j) n o d (fits g ids s r h o (w .0 .occurs)) t)
 
     module _ (five : (x : ℕ) → visits s x ≤ 5) where
       pub visit-number : (i n : ℕ) → ChildVisit g s r i n → decode (numberOf (visit i n)) ≡ visit i n

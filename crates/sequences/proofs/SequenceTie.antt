@@ -17,8 +17,8 @@ module _ (g ids s : List ℕ) (r : ℕ) where
   abbrev pub size : ℕ
   size = length (sequenceOf g ids s r)
 
-  abbrev pub actionAt : ℕ → ℕ
-  actionAt j = word (sequenceOf g ids s r) j
+  abbrev pub standsAt : ℕ → ℕ
+  standsAt j = word (sequenceOf g ids s r) j
 
   -- "The next action is always the lowest-numbered one whose predecessors are done."
   pub sequence-tie : TieRule (λ a b. follows g ids s r a b) (actionsOf g s r) (sequenceOf g ids s r)

@@ -12,7 +12,7 @@ use Rattle.basics.specs.Lists.{member, any, without}
 use Rattle.basics.proofs.TestLaws.{true-T, false-T, eq-T, below-or-not}
 use Rattle.basics.proofs.ListLaws.{any-at, any-find}
 use Rattle.sequences.specs.Order.{ready}
-use Rattle.sequences.specs.Paper.{Earlier}
+use Rattle.sequences.specs.Paper.{DoneBefore}
 use Rattle.sequences.specs.Paper as rule
 use Rattle.sequences.proofs.Rising.{without-member, member-without}
 
@@ -27,16 +27,16 @@ abbrev pub TieRule : (ℕ → ℕ → Bool) → List ℕ → List ℕ → Type 0
 TieRule after remaining out = rule.TieRule (λ b. T (member b remaining)) (λ b c. T (after b c)) out
 
 -- nothing stands before place 0; before place j + 1 stand the first, and what stands before place j of the rest
-pub earlier-none : (out : List ℕ) (a : ℕ) → Earlier out 0 a → ⊥
+pub earlier-none : (out : List ℕ) (a : ℕ) → DoneBefore out 0 a → ⊥
 earlier-none out a e = omega (arith, e .earlier)
 
-pub earlier-rest : (x : ℕ) (out : List ℕ) (j a : ℕ) → Earlier out j a → Earlier (x ∷ out) (suc j) a
+pub earlier-rest : (x : ℕ) (out : List ℕ) (j a : ℕ) → DoneBefore out j a → DoneBefore (x ∷ out) (suc j) a
 earlier-rest x out j a e = record { place = suc (e .place); earlier = omega (arith, e .earlier); standsThere = e .standsThere }
 
-pub earlier-cases : (x : ℕ) (out : List ℕ) (j a : ℕ) → Earlier (x ∷ out) (suc j) a → (a ≡ x) ⊎ Earlier out j a
+pub earlier-cases : (x : ℕ) (out : List ℕ) (j a : ℕ) → DoneBefore (x ∷ out) (suc j) a → (a ≡ x) ⊎ DoneBefore out j a
 earlier-cases x out j a e = go (e .place) (e .earlier) (e .standsThere)
   where
-    go : (k : ℕ) → k < suc j → getD (x ∷ out) k 0 ≡ a → (a ≡ x) ⊎ Earlier out j a
+    go : (k : ℕ) → k < suc j → getD (x ∷ out) k 0 ≡ a → (a ≡ x) ⊎ DoneBefore out j a
     go zero h i = inl (sym i)
     go (suc k) h i = inr (record { place = k; earlier = omega arith; standsThere = i })
 
@@ -89,7 +89,7 @@ module _ (after : ℕ → ℕ → Bool) where
         predecessors = λ b m f. go b m f (eqb b x) refl;
       }
     where
-      go : (b : ℕ) → T (member b remaining) → T (after a b) → (c : Bool) → eqb b x ≡ c → Earlier (x ∷ out) (suc j) b
+      go : (b : ℕ) → T (member b remaining) → T (after a b) → (c : Bool) → eqb b x ≡ c → DoneBefore (x ∷ out) (suc j) b
       go b m f true e = record { place = 0; earlier = omega arith; standsThere = sym (eqb→eq b x (true-T (eqb b x) e)) }
       go b m f false e =
           earlier-rest x out j b
@@ -170,5 +170,5 @@ module _ (after : ℕ → ℕ → Bool) where
         (λ q. omega arith) (below-or-not k j)) (below-or-not j k)
 
     -- and each after all that it follows
-    pub tie-after : (j : ℕ) → j < length out → (b : ℕ) → T (member b remaining) → T (after (getD out j 0) b) → Earlier out j b
+    pub tie-after : (j : ℕ) → j < length out → (b : ℕ) → T (member b remaining) → T (after (getD out j 0) b) → DoneBefore out j b
     tie-after j h b m f = rule .next j h .may .predecessors b m f

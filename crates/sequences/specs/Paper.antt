@@ -57,7 +57,7 @@ module _ (g : List ℕ) (set : ℕ → ℕ → ℕ) (r : ℕ) where
     lastLeave : (n : ℕ) (earlier : Action) → n ≡ visitsBy (set (symbolOf g r 0)) → ¬ (leave n ≡ earlier) → Follows (leave n) earlier
 
 -- a stands in the list at a place before place j
-pub record Earlier (out : List ℕ) (j a : ℕ) : Type 0 where
+pub record DoneBefore (out : List ℕ) (j a : ℕ) : Type 0 where
   pub place : ℕ
   pub earlier : place < j
   pub standsThere : word out place ≡ a
@@ -67,8 +67,8 @@ module _ (action : ℕ → Type 0) (after : ℕ → ℕ → Type 0) (out : List 
   -- a is an action that is not done before place j, and all that it follows are
   pub record May (j a : ℕ) : Type 0 where
     pub remains : action a
-    pub undone : ¬ Earlier out j a
-    pub predecessors : (b : ℕ) → action b → after a b → Earlier out j b
+    pub undone : ¬ DoneBefore out j a
+    pub predecessors : (b : ℕ) → action b → after a b → DoneBefore out j b
 
   -- a is the lowest of those
   pub record Next (j a : ℕ) : Type 0 where
@@ -90,4 +90,4 @@ pub record LeftOut (g : List ℕ) (set : ℕ → ℕ → ℕ) (r : ℕ) : Type 0
   pub sequence : Sequence g set r out
   pub action : ℕ
   pub belongs : Belongs g set r (decode action)
-  pub nowhere : ¬ Earlier out (length out) action
+  pub nowhere : ¬ DoneBefore out (length out) action

@@ -16,7 +16,7 @@ use Rattle.sequences.specs.Actions.{Action, compute, decode, makes}
 use Rattle.sequences.proofs.ActionNumbers.{decode-compute}
 use Rattle.sequences.proofs.ActionLaws.{belongs-compute, action-belongs}
 use Rattle.sequences.proofs.MakesLaws.{makes-compute, compute-makes}
-use Rattle.sequencing.specs.Given.{Given}
+use Rattle.sequencing.specs.Given.{RuleGiven}
 use Rattle.remaining.specs.Remaining.{remains}
 use Rattle.sequencing.specs.Going.{Going, Taken}
 use Rattle.sequencing.specs.Blocked.{Blocked}
@@ -24,9 +24,9 @@ use Rattle.remaining.proofs.MemberWalks.{first-member, under-first}
 use Rattle.sequencing.proofs.ReadyComputes.{free-quiet, quiet-free}
 use Rattle.sequencing.proofs.OrderSteps.{taken}
 use Rattle.remaining.proofs.RemainsLaws.{remains-compute, less-compute}
-use Rattle.sequencing.proofs.GivenLaws.{left-compute, Ready, orderly-rule, five-visits, row-path, waiting-fits}
+use Rattle.sequencing.proofs.GivenLaws.{left-compute, ActionReady, orderly-rule, five-visits, row-path, waiting-fits}
 
-module _ (g s rows : List ℕ) (p r : ℕ) (given : Given g s rows p r) where
+module _ (g s rows : List ℕ) (p r : ℕ) (given : RuleGiven g s rows p r) where
   module _ (c v l w : ℕ) (going : Going g (idsOf g) s r (remains c v l) w) where
     computed : (o : ℕ) → o < 64 → T (hasb o c) → T (defining g r o)
     computed o h t =
@@ -34,7 +34,7 @@ module _ (g s rows : List ℕ) (p r : ℕ) (given : Given g s rows p r) where
 
     module _ (blocked : ℕ) (rule : Blocked rows (64 * r) w blocked) where
       -- a compute is ready exactly where nothing blocks it
-      unblocked : (o : ℕ) → o < 64 → T (hasb o c) → Ready g s r c v l o → T (hasb o (minus c blocked))
+      unblocked : (o : ℕ) → o < 64 → T (hasb o c) → ActionReady g s r c v l o → T (hasb o (minus c blocked))
       unblocked o h t f =
           both-minus o c blocked t
           (not-T (hasb o blocked)
@@ -43,7 +43,7 @@ module _ (g s rows : List ℕ) (p r : ℕ) (given : Given g s rows p r) where
           free-quiet g (idsOf g) s r (orderly-rule g s rows p r given) (five-visits g s rows p r given) (remains c v l) w going o (computed o h t) f (k .0) (k .1)
           (subst (λ (x : Bool). T x) (row-path g s rows p r given (k .0) o (waiting-fits g s rows p r given c v l w going (k .0) (k .1)) h) (k .2))))
 
-      ready-compute : (o : ℕ) → o < 64 → T (hasb o (minus c blocked)) → Ready g s r c v l o
+      ready-compute : (o : ℕ) → o < 64 → T (hasb o (minus c blocked)) → ActionReady g s r c v l o
       ready-compute o h t =
           let u = minus-both o c blocked t in
           quiet-free g (idsOf g) s r (orderly-rule g s rows p r given) (five-visits g s rows p r given) (remains c v l) w going o (computed o h (u .0)) h
@@ -79,7 +79,7 @@ module _ (g s rows : List ℕ) (p r : ℕ) (given : Given g s rows p r) where
           here : T (hasb o c)
           here = minus-both o c blocked (first-member _ o f) .0
 
-      pub no-compute-ready : minus c blocked ≡ 0 → (o : ℕ) → o < 64 → T (remains c v l o) → Ready g s r c v l o → ⊥
+      pub no-compute-ready : minus c blocked ≡ 0 → (o : ℕ) → o < 64 → T (remains c v l o) → ActionReady g s r c v l o → ⊥
       no-compute-ready e o h t f =
           T-not (hasb o 0) (none-left o)
           (subst (λ (x : ℕ). T (hasb o x)) e (unblocked o h (subst (λ (x : Bool). T x) (remains-compute c v l o h) t) f))

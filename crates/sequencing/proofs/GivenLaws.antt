@@ -26,17 +26,17 @@ use Rattle.access.proofs.Accessors.{symbol-at-rule, rule-fits}
 use Rattle.sequences.proofs.OrderlyRules.{Orderly, setAt, fits}
 use Rattle.sequences.proofs.PlannedSequences.{orderly}
 use Rattle.plans.specs.Answer.{edpPaths}
-use Rattle.sequencing.specs.Given.{Given}
+use Rattle.sequencing.specs.Given.{RuleGiven}
 use Rattle.remaining.specs.Remaining.{remains}
 use Rattle.sequencing.specs.Going.{Going}
-use Rattle.sequencing.specs.Blocked.{Closed}
+use Rattle.sequencing.specs.Blocked.{RowsClosed}
 use Rattle.sequencing.proofs.ReadyComputes.{waits-attribute}
 use Rattle.sequencing.proofs.ReadyComputes.{Free}
 use Rattle.remaining.proofs.RemainsLaws.{remains-compute, remains-visit, remains-leave}
 
 -- no action that is left goes before a
-abbrev pub Ready : List ℕ → List ℕ → ℕ → ℕ → ℕ → ℕ → ℕ → Type 0
-Ready g s r c v l a = Free g (idsOf g) s r (remains c v l) a
+abbrev pub ActionReady : List ℕ → List ℕ → ℕ → ℕ → ℕ → ℕ → ℕ → Type 0
+ActionReady g s r c v l a = Free g (idsOf g) s r (remains c v l) a
 
 -- what stands in one of the three sets is left
 pub left-compute : (c v l o : ℕ) → o < 64 → T (hasb o c) → T (remains c v l o)
@@ -48,7 +48,7 @@ left-visit c v l b h t = subst⁻¹ (λ (x : Bool). T x) (remains-visit c v l b 
 pub left-leave : (c v l b : ℕ) → T (hasb b l) → T (remains c v l (128 + b))
 left-leave c v l b t = subst⁻¹ (λ (x : Bool). T x) (remains-leave c v l b) t
 
-module _ (g s rows : List ℕ) (p r : ℕ) (given : Given g s rows p r) where
+module _ (g s rows : List ℕ) (p r : ℕ) (given : RuleGiven g s rows p r) where
   pub orderly-rule : Orderly g (idsOf g) s r
   orderly-rule =
       subst⁻¹ (λ (x : List ℕ). Orderly g (idsOf g) x r) (given .sets)
@@ -80,14 +80,14 @@ module _ (g s rows : List ℕ) (p r : ℕ) (given : Given g s rows p r) where
 
 -- The same as the code meets it.
 module _ (g s rows : List ℕ) (p r : ℕ) where
-  pub place-small : Given g s rows p r → p < 65536
+  pub place-small : RuleGiven g s rows p r → p < 65536
   place-small given = omega (arith, given .starts, rule-fits g r (given .good) (omega (arith, given .counts)))
 
-  pub rows-room : Given g s rows p r → 64 * r + 64 ≤ length rows
+  pub rows-room : RuleGiven g s rows p r → 64 * r + 64 ≤ length rows
   rows-room given = omega (arith, given .room, given .counts)
 
   -- the rows hold all paths, so they are closed
-  pub rows-closed : Given g s rows p r → Closed rows (64 * r)
+  pub rows-closed : RuleGiven g s rows p r → RowsClosed rows (64 * r)
   rows-closed given o k b h t u =
       let l : k < 64 = row-below o h k t in
       let m : b < 64 = row-below k l b u in
@@ -104,5 +104,5 @@ module _ (g s rows : List ℕ) (p r : ℕ) where
           edp-path-exact g (given .good) s r (lt→ltb r (rules g) (given .counts)) o b .0
           (subst (λ (x : Bool). T x) (row-path g s rows p r given o b h m) t)
 
-  pub rows-ready : Given g s rows p r → (64 * r + 64 ≤ length rows) × Closed rows (64 * r)
+  pub rows-ready : RuleGiven g s rows p r → (64 * r + 64 ≤ length rows) × RowsClosed rows (64 * r)
   rows-ready given = (rows-room given, rows-closed given)

@@ -13,7 +13,6 @@ use Rattle.bits.proofs.LowestLaws.{lowest-is, bit-under-lowest}
 use Rattle.bits.proofs.CollectLaws.{collect-lt}
 use Rattle.bits.proofs.MemberLaws.{hasb-collect, hasb-below, none-left, has-not, has-other, common-both, both-common}
 use Rattle.basics.specs.Tests.{_or_}
-use Rattle.basics.specs.Lists.{member}
 use Rattle.basics.proofs.TestLaws.{
   and-intro,
   and-left,
@@ -39,7 +38,7 @@ use Rattle.sequences.proofs.ActionNumbers.{decode-leave}
 use Rattle.sequences.proofs.ActionLaws.{LeftLeave, belongs-leave, action-belongs, action-below}
 use Rattle.sequences.proofs.MakesLaws.{makes-leave}
 use Rattle.sequences.proofs.OrderlyRules.{setAt, left-nonterminal}
-use Rattle.sequencing.specs.Given.{Given}
+use Rattle.sequencing.specs.Given.{RuleGiven}
 use Rattle.remaining.specs.Remaining.{remains}
 use Rattle.sequencing.specs.Going.{Going}
 use Rattle.remaining.specs.RuleSets.{setMask, synthesizedMask, leaveFree, others, leaveReady}
@@ -61,7 +60,7 @@ from-others c v k t =
     let h : k < 64 = hasb-below 64 k (others c v) (collect-lt 64 _) t in
     (h, or-cases _ _ (subst (λ (x : Bool). T x) (hasb-collect 64 k _ h) t))
 
-module _ (g s rows : List ℕ) (p r : ℕ) (given : Given g s rows p r) where
+module _ (g s rows : List ℕ) (p r : ℕ) (given : RuleGiven g s rows p r) where
   module _ (c v l w : ℕ) (going : Going g (idsOf g) s r (remains c v l) w) where
     -- leave b is leave b + 1 of the left side
     pub leave-is : (b : ℕ) → T (hasb b l) → decode (128 + b) ≡ leave (b + 1)

@@ -23,7 +23,7 @@ use Rattle.sequences.proofs.MakesLaws.{makes-leave, leave-makes, inherited-of}
 use Rattle.sequences.proofs.TieLaws.{ready-use}
 use Rattle.sequences.proofs.AlwaysReady.{always-ready}
 use Rattle.sequences.proofs.OrderlyRules.{setAt, left-nonterminal, set-low}
-use Rattle.sequencing.specs.Given.{Given}
+use Rattle.sequencing.specs.Given.{RuleGiven}
 use Rattle.remaining.specs.Remaining.{remains, remaining}
 use Rattle.sequencing.specs.Going.{Going, Taken}
 use Rattle.remaining.specs.RuleSets.{handedDown, readyLeaves}
@@ -35,29 +35,29 @@ use Rattle.sequencing.proofs.ReadyLeaves.{free-leave, ready-leave}
 use Rattle.sequencing.proofs.OrderSteps.{taken}
 use Rattle.remaining.proofs.RemainsLaws.{remains-leave, Kind, aCompute, aVisit, aLeave, kind-of, less-leave}
 use Rattle.remaining.proofs.MaskLaws.{down-at, at-down}
-use Rattle.sequencing.proofs.GivenLaws.{Ready, orderly-rule, five-visits, left-leave, set-from, visits-from}
+use Rattle.sequencing.proofs.GivenLaws.{ActionReady, orderly-rule, five-visits, left-leave, set-from, visits-from}
 use Rattle.sequencing.proofs.LeaveTests.{left-side, ready-next, leave-small, next-ready, leave-is}
 
-module _ (g s rows : List ℕ) (p r : ℕ) (given : Given g s rows p r) where
+module _ (g s rows : List ℕ) (p r : ℕ) (given : RuleGiven g s rows p r) where
   module _ (c v l w : ℕ) (going : Going g (idsOf g) s r (remains c v l) w) where
-    leave-is-ready : (b : ℕ) → T (hasb b (readyLeaves g s p c v l w)) → Ready g s r c v l (128 + b)
+    leave-is-ready : (b : ℕ) → T (hasb b (readyLeaves g s p c v l w)) → ActionReady g s r c v l (128 + b)
     leave-is-ready b t =
         let u = leave-ready-at g s p c v l w b t in
         let e : 128 + b ≡ 128 + (b + 1 - 1) = omega arith in
-        subst⁻¹ (λ (a : ℕ). Ready g s r c v l a) e
+        subst⁻¹ (λ (a : ℕ). ActionReady g s r c v l a) e
         (ready-leave g (idsOf g) s r (orderly-rule g s rows p r given) (five-visits g s rows p r given) (remains c v l) w going (b + 1) (left-side g s rows p r given c v l w going b (u .1)) (ready-next g s rows p r given c v l w going b (u .1) (u .2)))
 
-    pub ready-is-leave : (b : ℕ) → T (hasb b l) → Ready g s r c v l (128 + b) → T (hasb b (readyLeaves g s p c v l w))
+    pub ready-is-leave : (b : ℕ) → T (hasb b l) → ActionReady g s r c v l (128 + b) → T (hasb b (readyLeaves g s p c v l w))
     ready-is-leave b t f =
         let e : 128 + b ≡ 128 + (b + 1 - 1) = omega arith in
         leave-at-ready g s p c v l w b (leave-small g s rows p r given c v l w going b t) t
         (next-ready g s rows p r given c v l w going b t
-        (free-leave g (idsOf g) s r (orderly-rule g s rows p r given) (five-visits g s rows p r given) (remains c v l) w going (b + 1) (left-side g s rows p r given c v l w going b t) (subst (λ (a : ℕ). Ready g s r c v l a) e f)))
+        (free-leave g (idsOf g) s r (orderly-rule g s rows p r given) (five-visits g s rows p r given) (remains c v l) w going (b + 1) (left-side g s rows p r given c v l w going b t) (subst (λ (a : ℕ). ActionReady g s r c v l a) e f)))
 
     -- where neither a compute nor a visit is ready, a leave is
-    module _ (noCompute : (o : ℕ) → o < 64 → T (remains c v l o) → Ready g s r c v l o → ⊥)
-        (noVisit : (b : ℕ) → b < 64 → T (remains c v l (64 + b)) → Ready g s r c v l (64 + b) → ⊥) where
-      pub some-leave : 1 ≤ length (remaining (remains c v l)) → (d : ℕ) × T (hasb d l) × Ready g s r c v l (128 + d)
+    module _ (noCompute : (o : ℕ) → o < 64 → T (remains c v l o) → ActionReady g s r c v l o → ⊥)
+        (noVisit : (b : ℕ) → b < 64 → T (remains c v l (64 + b)) → ActionReady g s r c v l (64 + b) → ⊥) where
+      pub some-leave : 1 ≤ length (remaining (remains c v l)) → (d : ℕ) × T (hasb d l) × ActionReady g s r c v l (128 + d)
       unfolding remaining
       some-leave some = go (kind-of (a .0))
         where
@@ -69,19 +69,19 @@ module _ (g s rows : List ℕ) (p r : ℕ) (given : Given g s rows p r) where
           there : T (remains c v l (a .0))
           there = passing-member actionNumbers (remains c v l) (a .0) (a .1) .1
 
-          free : Ready g s r c v l (a .0)
+          free : ActionReady g s r c v l (a .0)
           free b t f =
               ready-use (λ a b. follows g (idsOf g) s r a b) (remaining (remains c v l)) (a .0) (a .2) b
               (member-passing actionNumbers (remains c v l) b (action-below g s r b (going .actions b t)) t) f
 
-          go : Kind (a .0) → (d : ℕ) × T (hasb d l) × Ready g s r c v l (128 + d)
+          go : Kind (a .0) → (d : ℕ) × T (hasb d l) × ActionReady g s r c v l (128 + d)
           go (aCompute h) = absurd (noCompute (a .0) h there free)
           go (aVisit b h e) =
-              absurd (noVisit b h (subst (λ (x : ℕ). T (remains c v l x)) e there) (subst (λ (x : ℕ). Ready g s r c v l x) e free))
+              absurd (noVisit b h (subst (λ (x : ℕ). T (remains c v l x)) e there) (subst (λ (x : ℕ). ActionReady g s r c v l x) e free))
           go (aLeave b e) = (
             b,
             subst (λ (x : Bool). T x) (remains-leave c v l b) (subst (λ (x : ℕ). T (remains c v l x)) e there),
-            subst (λ (x : ℕ). Ready g s r c v l x) e free,
+            subst (λ (x : ℕ). ActionReady g s r c v l x) e free,
           )
 
       -- the lowest of them is next
@@ -99,14 +99,14 @@ module _ (g s rows : List ℕ) (p r : ℕ) (given : Given g s rows p r) where
           here : T (hasb b l)
           here = leave-ready-at g s p c v l w b (first-member _ b f) .1
 
-          lower : (a : ℕ) → a < 128 + b → T (remains c v l a) → Ready g s r c v l a → Kind a → ⊥
+          lower : (a : ℕ) → a < 128 + b → T (remains c v l a) → ActionReady g s r c v l a → Kind a → ⊥
           lower a k t u (aCompute h) = noCompute a h t u
           lower a k t u (aVisit d h e) =
-              noVisit d h (subst (λ (x : ℕ). T (remains c v l x)) e t) (subst (λ (x : ℕ). Ready g s r c v l x) e u)
+              noVisit d h (subst (λ (x : ℕ). T (remains c v l x)) e t) (subst (λ (x : ℕ). ActionReady g s r c v l x) e u)
           lower a k t u (aLeave d e) =
               under-first _ b d f (omega arith)
               (ready-is-leave d
-              (subst (λ (x : Bool). T x) (remains-leave c v l d) (subst (λ (x : ℕ). T (remains c v l x)) e t)) (subst (λ (x : ℕ). Ready g s r c v l x) e u))
+              (subst (λ (x : Bool). T x) (remains-leave c v l d) (subst (λ (x : ℕ). T (remains c v l x)) e t)) (subst (λ (x : ℕ). ActionReady g s r c v l x) e u))
 
           down : (o : ℕ) → T (makes g s r (decode (128 + b)) o) → T (hasb o (handedDown g s p b))
           down o m =

@@ -12,4 +12,3 @@ pub mod NextLaws
 pub mod BlockedLaws
 pub mod StartLaws
 pub mod WritingLaws
-pub mod RowsLaws

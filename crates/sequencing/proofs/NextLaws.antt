@@ -15,12 +15,11 @@ use Rattle.relations.specs.Computed.{idsOf}
 use Rattle.sets.specs.Visits.{visits}
 use Rattle.access.specs.ByPlace.{symbolFrom}
 use Rattle.sequences.specs.Follows.{follows}
-use Rattle.sequences.specs.Order.{ready}
-use Rattle.sequencing.specs.Given.{Given}
+use Rattle.sequencing.specs.Given.{RuleGiven}
 use Rattle.remaining.specs.Remaining.{remains, remaining, Done}
 use Rattle.sequencing.specs.Going.{Going, Taken}
 use Rattle.sequencing.specs.Blocked.{Blocked}
-use Rattle.remaining.specs.RuleSets.{handedUp, handedDown, Children, Leaves, Along, readyVisits, readyLeaves}
+use Rattle.remaining.specs.RuleSets.{handedUp, handedDown, Children, LeftLeaves, Along, readyVisits, readyLeaves}
 use Rattle.remaining.proofs.MemberWalks.{first-member}
 use Rattle.remaining.proofs.LeaveSetLaws.{leave-ready-at}
 use Rattle.remaining.proofs.MaskLaws.{ready-at}
@@ -32,7 +31,7 @@ use Rattle.sequencing.proofs.LeavesTaken.{take-leave, ready-is-leave, s
 
 module _ (g s rows : List ℕ) (p r : ℕ) where
   module _ (c v l w : ℕ) where
-    pub children-left : Given g s rows p r → Going g (idsOf g) s r (remains c v l) w → Children g s p v
+    pub children-left : RuleGiven g s rows p r → Going g (idsOf g) s r (remains c v l) w → Children g s p v
     children-left given going b h t =
         omega (arith, child g s rows p r given c v l w going b h t .last, visits-from g s rows p r given (b / 8))
 
@@ -46,14 +45,14 @@ module _ (g s rows : List ℕ) (p r : ℕ) where
         (subst⁻¹ (λ (x : ℕ). Taken g (idsOf g) s r before a (remains d u x) w′) (e .leavesAre)
         (subst⁻¹ (λ (x : ℕ). Taken g (idsOf g) s r before a (remains d u m) x) (e .waitingAre) t))))
 
-    pub next-compute : (blocked ready o action c′ v′ l′ w′ : ℕ) → Given g s rows p r → Going g (idsOf g) s r (remains c v l) w
+    pub next-compute : (blocked ready o action c′ v′ l′ w′ : ℕ) → RuleGiven g s rows p r → Going g (idsOf g) s r (remains c v l) w
         → Blocked rows (64 * r) w blocked → ready ≡ minus c blocked → First ready o → Done action c′ v′ l′ w′ o (remove o c) v l (remove o w)
         → Taken g (idsOf g) s r (remains c v l) action (remains c′ v′ l′) w′
     next-compute blocked ready o action c′ v′ l′ w′ given going k e f d =
         done-taken action c′ v′ l′ w′ o (remove o c) v l (remove o w) d
         (take-compute g s rows p r given c v l w going blocked k o (subst (λ (x : ℕ). First x o) e f))
 
-    pub next-visit : (down : List ℕ) (blocked ready calls b action c′ v′ l′ w′ : ℕ) → Given g s rows p r
+    pub next-visit : (down : List ℕ) (blocked ready calls b action c′ v′ l′ w′ : ℕ) → RuleGiven g s rows p r
         → Going g (idsOf g) s r (remains c v l) w → Along g s p v down → Blocked rows (64 * r) w blocked → ready ≡ minus c blocked → ready ≡ 0
         → calls ≡ readyVisits down v w → First calls b → Done action c′ v′ l′ w′ (64 + b) c (remove b v) l (minus w (handedUp g s p b))
         → Taken g (idsOf g) s r (remains c v l) action (remains c′ v′ l′) w′
@@ -63,18 +62,18 @@ module _ (g s rows : List ℕ) (p r : ℕ) where
         (subst (λ (x : ℕ). First x b) q f))
 
     -- a visit that is ready is a visit of a child
-    pub visit-child : (down : List ℕ) (calls b : ℕ) → Given g s rows p r → Going g (idsOf g) s r (remains c v l) w → Along g s p v down
+    pub visit-child : (down : List ℕ) (calls b : ℕ) → RuleGiven g s rows p r → Going g (idsOf g) s r (remains c v l) w → Along g s p v down
         → calls ≡ readyVisits down v w → First calls b → b % 8 < visits s (symbolFrom g p (b / 8))
     visit-child down calls b given going along q f =
         children-left given going b (f .small)
         (ready-at g s p down v w b along (subst (λ (x : ℕ). T (hasb b x)) q (first-member calls b f)) .1)
 
     -- what is left of the leaves are leaves of the left side
-    pub leaves-left : Given g s rows p r → Going g (idsOf g) s r (remains c v l) w → Leaves g s p l
+    pub leaves-left : RuleGiven g s rows p r → Going g (idsOf g) s r (remains c v l) w → LeftLeaves g s p l
     leaves-left given going b t =
         omega (arith, left-side g s rows p r given c v l w going b t .last, visits-from g s rows p r given 0)
 
-    pub next-leave : (down : List ℕ) (blocked ready calls leaves b action c′ v′ l′ w′ : ℕ) → Given g s rows p r
+    pub next-leave : (down : List ℕ) (blocked ready calls leaves b action c′ v′ l′ w′ : ℕ) → RuleGiven g s rows p r
         → Going g (idsOf g) s r (remains c v l) w → Along g s p v down → Blocked rows (64 * r) w blocked → ready ≡ minus c blocked → ready ≡ 0
         → calls ≡ readyVisits down v w → calls ≡ 0 → leaves ≡ readyLeaves g s p c v l w → First leaves b
         → Done action c′ v′ l′ w′ (128 + b) c v (remove b l) (minus w (handedDown g s p b))
@@ -85,7 +84,7 @@ module _ (g s rows : List ℕ) (p r : ℕ) where
         (no-visit-ready g s rows p r given c v l w going down along (sym q ∙ n)) b (subst (λ (x : ℕ). First x b) m f))
 
     -- where nothing else is ready a leave is
-    pub leave-ready-then : (down : List ℕ) (blocked ready calls leaves : ℕ) → Given g s rows p r
+    pub leave-ready-then : (down : List ℕ) (blocked ready calls leaves : ℕ) → RuleGiven g s rows p r
         → Going g (idsOf g) s r (remains c v l) w → 1 ≤ length (remaining (remains c v l)) → Along g s p v down
         → Blocked rows (64 * r) w blocked → ready ≡ minus c blocked → ready ≡ 0 → calls ≡ readyVisits down v w → calls ≡ 0
         → leaves ≡ readyLeaves g s p c v l w → 0 < leaves
@@ -102,7 +101,7 @@ module _ (g s rows : List ℕ) (p r : ℕ) where
             some-leave g s rows p r given c v l w going (no-compute-ready g s rows p r given c v l w going blocked k (sym e ∙ z))
             (no-visit-ready g s rows p r given c v l w going down along (sym q ∙ n)) some
 
-    pub leave-inside : (leaves b : ℕ) → Given g s rows p r → Going g (idsOf g) s r (remains c v l) w → leaves ≡ readyLeaves g s p c v l w
+    pub leave-inside : (leaves b : ℕ) → RuleGiven g s rows p r → Going g (idsOf g) s r (remains c v l) w → leaves ≡ readyLeaves g s p c v l w
         → First leaves b → b < visits s (symbolFrom g p 0)
     leave-inside leaves b given going m f =
         leaves-left given going b (leave-ready-at g s p c v l w b (subst (λ (x : ℕ). T (hasb b x)) m (first-member leaves b f)) .1)

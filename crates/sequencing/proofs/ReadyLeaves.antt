@@ -28,7 +28,7 @@ use Rattle.sequences.proofs.MakesLaws.{
 }
 use Rattle.grammar.proofs.AcceptedTable.{defining-occurs}
 use Rattle.grammar.proofs.OccurrenceLaws.{defining-left, left-defining}
-use Rattle.sequences.proofs.FollowsLaws.{Linked, follows-cases, leave-after-leave, leave-after-compute, last-leave-after}
+use Rattle.sequences.proofs.FollowsLaws.{LinkedByArc, follows-cases, leave-after-leave, leave-after-compute, last-leave-after}
 use Rattle.sequences.proofs.OrderlyRules.{Orderly, BesideArc, setAt, fits, set-low, left-nonterminal, arc-beside, beside-down}
 use Rattle.sequences.proofs.SequenceLaws.{compute-stands, leave-number, leave-stands}
 use Rattle.sequences.proofs.AvailableFirst.{visit-counts}
@@ -124,7 +124,7 @@ module _ (g ids s : List ℕ) (r : ℕ) (h : Orderly g ids s r) (five : (x : ℕ
         number : decode (numberOf (leave n)) ≡ leave n
         number = leave-number g ids s r h five n c
 
-        linked : Linked g ids s r (decode (numberOf (leave n))) (decode b) → ActionIs g s r b → (numberOf (leave n) ≡ b → ⊥) → ⊥
+        linked : LinkedByArc g ids s r (decode (numberOf (leave n))) (decode b) → ActionIs g s r b → (numberOf (leave n) ≡ b → ⊥) → ⊥
         linked u x differs = go₂ x
           where
             goal : T (inheritedOf g s r 0 (suc n) (u .goal))
@@ -190,7 +190,7 @@ module _ (g ids s : List ℕ) (r : ℕ) (h : Orderly g ids s r) (five : (x : ℕ
             ready .next m (x .first) (omega arith) (subst (λ (p : ℕ). T (left p)) e t)
 
         go : ActionIs g s r b
-            → (numberOf (leave n) ≡ b → ⊥) × (Linked g ids s r (decode (numberOf (leave n))) (decode b) ⊎ T (besides g s r (decode (numberOf (leave n))) (decode b)))
+            → (numberOf (leave n) ≡ b → ⊥) × (LinkedByArc g ids s r (decode (numberOf (leave n))) (decode b) ⊎ T (besides g s r (decode (numberOf (leave n))) (decode b)))
             → ⊥
         go x e =
             ⊎-elim (λ u. linked u x (e .0))

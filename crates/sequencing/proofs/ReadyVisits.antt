@@ -28,7 +28,7 @@ use Rattle.sequences.proofs.MakesLaws.{
 }
 use Rattle.grammar.proofs.AcceptedTable.{defining-occurs}
 use Rattle.grammar.proofs.OccurrenceLaws.{defining-child, child-defining}
-use Rattle.sequences.proofs.FollowsLaws.{Linked, follows-cases, visit-after-visit, visit-after-compute}
+use Rattle.sequences.proofs.FollowsLaws.{LinkedByArc, follows-cases, visit-after-visit, visit-after-compute}
 use Rattle.sequences.proofs.OrderlyRules.{Orderly, BesideArc, setAt, fits, arc-beside, beside-down}
 use Rattle.sequences.proofs.SequenceLaws.{compute-stands, visit-number, visit-stands}
 use Rattle.sequences.proofs.AvailableFirst.{visit-counts}
@@ -133,7 +133,7 @@ module _ (g ids s : List ℕ) (r : ℕ) (h : Orderly g ids s r) (five : (x : ℕ
         number : decode (numberOf (visit i n)) ≡ visit i n
         number = visit-number g ids s r h five i n c
 
-        linked : Linked g ids s r (decode (numberOf (visit i n))) (decode b) → ActionIs g s r b → (numberOf (visit i n) ≡ b → ⊥) → ⊥
+        linked : LinkedByArc g ids s r (decode (numberOf (visit i n))) (decode b) → ActionIs g s r b → (numberOf (visit i n) ≡ b → ⊥) → ⊥
         linked u x differs = go₂ x
           where
             goal : T (synthesizedOf g s r i n (u .goal))
@@ -200,7 +200,7 @@ module _ (g ids s : List ℕ) (r : ℕ) (h : Orderly g ids s r) (five : (x : ℕ
         besides₂ (leaves m q e d x) u = subst (λ (x : Action). T (beforeVisit g s r i n x)) d u
 
         go : ActionIs g s r b
-            → (numberOf (visit i n) ≡ b → ⊥) × (Linked g ids s r (decode (numberOf (visit i n))) (decode b) ⊎ T (besides g s r (decode (numberOf (visit i n))) (decode b)))
+            → (numberOf (visit i n) ≡ b → ⊥) × (LinkedByArc g ids s r (decode (numberOf (visit i n))) (decode b) ⊎ T (besides g s r (decode (numberOf (visit i n))) (decode b)))
             → ⊥
         go x e =
             ⊎-elim (λ u. linked u x (e .0))

@@ -31,7 +31,7 @@ use Rattle.sequences.proofs.Rising.{length-passing}
 use Rattle.sequences.proofs.OrderlyRules.{setAt, fits, left-nonterminal}
 use Rattle.sequences.proofs.SequenceLaws.{compute-stands, visit-stands, leave-stands}
 use Rattle.sequences.proofs.AvailableFirst.{maker}
-use Rattle.sequencing.specs.Given.{Given}
+use Rattle.sequencing.specs.Given.{RuleGiven}
 use Rattle.remaining.specs.Remaining.{remains, remaining}
 use Rattle.sequencing.specs.Going.{Going}
 use Rattle.remaining.specs.RuleSets.{inheritedMask, visitFrom, madeFrom, Started}
@@ -59,7 +59,7 @@ count-members (suc w) s f e =
     one true = refl
     one false = refl
 
-module _ (g s rows : List ℕ) (p r : ℕ) (given : Given g s rows p r) (c v l w : ℕ) (started : Started g s p c v l w) where
+module _ (g s rows : List ℕ) (p r : ℕ) (given : RuleGiven g s rows p r) (c v l w : ℕ) (started : Started g s p c v l w) where
   length-is : lengthAt g p ≡ rightLength g r
   unfolding rightLength
   length-is = ap (lengthAt g) (given .starts)

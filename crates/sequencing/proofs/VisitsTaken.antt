@@ -16,7 +16,7 @@ use Rattle.sequences.specs.Actions.{Action, visit, decode, makes}
 use Rattle.sequences.proofs.ActionNumbers.{decode-number}
 use Rattle.sequences.proofs.ActionLaws.{ChildVisit, belongs-visit, action-belongs}
 use Rattle.sequences.proofs.MakesLaws.{makes-visit, visit-makes, synthesized-of}
-use Rattle.sequencing.specs.Given.{Given}
+use Rattle.sequencing.specs.Given.{RuleGiven}
 use Rattle.remaining.specs.Remaining.{remains}
 use Rattle.sequencing.specs.Going.{Going, Taken}
 use Rattle.remaining.specs.RuleSets.{handedUp, Along, readyVisits}
@@ -27,7 +27,7 @@ use Rattle.sequencing.proofs.ReadyVisits.{VisitReady, free-visit, ready
 use Rattle.sequencing.proofs.OrderSteps.{taken}
 use Rattle.remaining.proofs.RemainsLaws.{remains-visit, Kind, aCompute, aVisit, aLeave, kind-of, less-visit}
 use Rattle.remaining.proofs.MaskLaws.{up-at, at-up, Passes, ready-at, at-ready}
-use Rattle.sequencing.proofs.GivenLaws.{left-visit, set-from, visits-from, Ready, orderly-rule, five-visits}
+use Rattle.sequencing.proofs.GivenLaws.{left-visit, set-from, visits-from, ActionReady, orderly-rule, five-visits}
 
 -- visit b is visit b % 8 + 1 of child b / 8
 visit-is : (b : ℕ) → b < 64 → decode (64 + b) ≡ visit (b / 8) (b % 8 + 1)
@@ -35,18 +35,15 @@ visit-is b h =
     let e : 64 + b ≡ 64 + 8 * (b / 8) + (b % 8 + 1 - 1) = omega arith in
     ap decode e ∙ decode-number (visit (b / 8) (b % 8 + 1)) (omega arith, omega arith, omega arith)
 
-module _ (g s rows : List ℕ) (p r : ℕ) (given : Given g s rows p r) where
+module _ (g s rows : List ℕ) (p r : ℕ) (given : RuleGiven g s rows p r) where
   module _ (c v l w : ℕ) (going : Going g (idsOf g) s r (remains c v l) w) where
     pub child : (b : ℕ) → b < 64 → T (hasb b v) → ChildVisit g s r (b / 8) (b % 8 + 1)
     child b h t =
         belongs-visit g s r (b / 8) (b % 8 + 1)
         (action-belongs g s r (64 + b) (visit (b / 8) (b % 8 + 1)) (visit-is b h) (going .actions (64 + b) (left-visit c v l b h t)))
 
-    abbrev Next : ℕ → ℕ → Type 0
-    Next i n = VisitReady g (idsOf g) s r (remains c v l) w i n
-
     -- the test of a visit says that it is ready
-    passes-next : (b : ℕ) → b < 64 → Passes g s p v w b → Next (b / 8) (b % 8 + 1)
+    passes-next : (b : ℕ) → b < 64 → Passes g s p v w b → VisitReady g (idsOf g) s r (remains c v l) w (b / 8) (b % 8 + 1)
     passes-next b h u =
         record {
           next = λ m k q t.
@@ -60,7 +57,7 @@ module _ (g s rows : List ℕ) (p r : ℕ) (given : Given g s rows p r) where
               (set-from g s rows p r given (b / 8) o q ∙ (k ∙ ap (λ (x : ℕ). 2 * (x + 1 - (b % 8 + 1))) (sym (visits-from g s rows p r given (b / 8)))));
         }
 
-    next-passes : (b : ℕ) → b < 64 → Next (b / 8) (b % 8 + 1) → Passes g s p v w b
+    next-passes : (b : ℕ) → b < 64 → VisitReady g (idsOf g) s r (remains c v l) w (b / 8) (b % 8 + 1) → Passes g s p v w b
     next-passes b h u =
         record {
           next = λ k q t.
@@ -77,24 +74,24 @@ module _ (g s rows : List ℕ) (p r : ℕ) (given : Given g s rows p r) where
         }
 
     module _ (down : List ℕ) (along : Along g s p v down) where
-      ready-is-visit : (b : ℕ) → b < 64 → T (hasb b v) → Ready g s r c v l (64 + b) → T (hasb b (readyVisits down v w))
+      ready-is-visit : (b : ℕ) → b < 64 → T (hasb b v) → ActionReady g s r c v l (64 + b) → T (hasb b (readyVisits down v w))
       ready-is-visit b h t f =
           let e : 64 + b ≡ 64 + 8 * (b / 8) + (b % 8 + 1 - 1) = omega arith in
           at-ready g s p down v w b along h t
           (next-passes b h
           (free-visit g (idsOf g) s r (orderly-rule g s rows p r given) (five-visits g s rows p r given) (remains c v l) w going (b / 8) (b % 8 + 1) (child b h t)
-          (subst (λ (a : ℕ). Ready g s r c v l a) e f)))
+          (subst (λ (a : ℕ). ActionReady g s r c v l a) e f)))
 
-      visit-is-ready : (b : ℕ) → T (hasb b (readyVisits down v w)) → Ready g s r c v l (64 + b)
+      visit-is-ready : (b : ℕ) → T (hasb b (readyVisits down v w)) → ActionReady g s r c v l (64 + b)
       visit-is-ready b t =
           let u = ready-at g s p down v w b along t in
           let e : 64 + b ≡ 64 + 8 * (b / 8) + (b % 8 + 1 - 1) = omega (arith, u .0) in
-          subst⁻¹ (λ (a : ℕ). Ready g s r c v l a) e
+          subst⁻¹ (λ (a : ℕ). ActionReady g s r c v l a) e
           (ready-visit g (idsOf g) s r (orderly-rule g s rows p r given) (five-visits g s rows p r given) (remains c v l) w going (b / 8) (b % 8 + 1) (child b (u .0) (u .1))
           (passes-next b (u .0) (u .2)))
 
       -- an action below that of visit b that is ready would be a compute, or a visit below b
-      pub take-visit : (b : ℕ) → ((o : ℕ) → o < 64 → T (remains c v l o) → Ready g s r c v l o → ⊥) → First (readyVisits down v w) b
+      pub take-visit : (b : ℕ) → ((o : ℕ) → o < 64 → T (remains c v l o) → ActionReady g s r c v l o → ⊥) → First (readyVisits down v w) b
           → Taken g (idsOf g) s r (remains c v l) (64 + b) (remains c (remove b v) l) (minus w (handedUp g s p b))
       take-visit b none f =
           taken g (idsOf g) s r (remains c v l) w going (64 + b) (left-visit c v l b (f .small) (here .1))
@@ -108,12 +105,12 @@ module _ (g s rows : List ℕ) (p r : ℕ) (given : Given g s rows p r) where
           here : (b < 64) × T (hasb b v) × Passes g s p v w b
           here = ready-at g s p down v w b along (first-member _ b f)
 
-          lower : (a : ℕ) → a < 64 + b → T (remains c v l a) → Ready g s r c v l a → Kind a → ⊥
+          lower : (a : ℕ) → a < 64 + b → T (remains c v l a) → ActionReady g s r c v l a → Kind a → ⊥
           lower a k t u (aCompute h) = none a h t u
           lower a k t u (aVisit d h e) =
               under-first _ b d f (omega arith)
               (ready-is-visit d h (subst (λ (x : Bool). T x) (remains-visit c v l d h) (subst (λ (x : ℕ). T (remains c v l x)) e t))
-              (subst (λ (x : ℕ). Ready g s r c v l x) e u))
+              (subst (λ (x : ℕ). ActionReady g s r c v l x) e u))
           lower a k t u (aLeave d e) = omega (arith, f .small)
 
           visited : ChildVisit g s r (b / 8) (b % 8 + 1)
@@ -137,7 +134,7 @@ module _ (g s rows : List ℕ) (p r : ℕ) (given : Given g s rows p r) where
               (waits-attribute g (idsOf g) s r (orderly-rule g s rows p r given) (five-visits g s rows p r given) (remains c v l) w going o t) (k .0) (omega arith) (visited .last)
               (sym (set-from g s rows p r given (b / 8) o (k .0)) ∙ (k .1 ∙ ap (λ (x : ℕ). 2 * (x + 1 - (b % 8 + 1)) - 1) (visits-from g s rows p r given (b / 8))))))
 
-      pub no-visit-ready : readyVisits down v w ≡ 0 → (b : ℕ) → b < 64 → T (remains c v l (64 + b)) → Ready g s r c v l (64 + b) → ⊥
+      pub no-visit-ready : readyVisits down v w ≡ 0 → (b : ℕ) → b < 64 → T (remains c v l (64 + b)) → ActionReady g s r c v l (64 + b) → ⊥
       no-visit-ready e b h t f =
           T-not (hasb b 0) (none-left b)
           (subst (λ (x : ℕ). T (hasb b x)) e (ready-is-visit b h (subst (λ (x : Bool). T x) (remains-visit c v l b h) t) f))

@@ -20,7 +20,7 @@ use Rattle.sequences.specs.Follows.{follows}
 use Rattle.sequences.specs.Order.{order, sequenceOf}
 use Rattle.sequences.proofs.ActionLaws.{at-most-104}
 use Rattle.plans.specs.Buffers.{sequenceWords}
-use Rattle.sequencing.specs.Given.{Given, written}
+use Rattle.sequencing.specs.Given.{RuleGiven, withBlock}
 use Rattle.remaining.specs.Remaining.{remains, remaining}
 use Rattle.sequencing.specs.Going.{Going, Taken}
 use Rattle.remaining.specs.RuleSets.{Few, Children, Along, Started}
@@ -30,10 +30,10 @@ use Rattle.sequencing.proofs.NextLaws.{children-left}
 use Rattle.sequencing.proofs.StartLaws.{starts-going, starts-all, starts-count}
 
 module _ (g s rows : List ℕ) (p r : ℕ) where
-  pub shaped-given : Given g s rows p r → Shaped g p
+  pub shaped-given : RuleGiven g s rows p r → Shaped g p
   shaped-given given = shaped-rule g r p (given .starts) (given .good) (given .counts)
 
-  pub few-given : Given g s rows p r → Few g p s
+  pub few-given : RuleGiven g s rows p r → Few g p s
   few-given given i h = five-visits g s rows p r given (symbolFrom g p i)
 
   -- after j actions, of n
@@ -50,10 +50,10 @@ module _ (g s rows : List ℕ) (p r : ℕ) where
         ≡ out ++ order (λ a b. follows g (idsOf g) s r a b) (n - j) (remaining (remains c v l))
 
   -- the visits that are left at the start are visits of children
-  pub children-start : (c v l w : ℕ) → Given g s rows p r → Started g s p c v l w → Children g s p v
+  pub children-start : (c v l w : ℕ) → RuleGiven g s rows p r → Started g s p c v l w → Children g s p v
   children-start c v l w given started = children-left g s rows p r c v l w given (starts-going g s rows p r given c v l w started)
 
-  pub writing-start : (c v l w n : ℕ) (down : List ℕ) → Given g s rows p r → Started g s p c v l w
+  pub writing-start : (c v l w n : ℕ) (down : List ℕ) → RuleGiven g s rows p r → Started g s p c v l w
       → n ≡ bits.count 64 c + bits.count 64 v + bits.count 64 l → Along g s p v down → Writing n down (n ∷ replicate 111 0) c v l w 0
   unfolding sequenceOf
   writing-start c v l w n down given started e along =
@@ -160,8 +160,8 @@ copying-length entry at block plan j w =
     ap length (w .planIs) ∙ length-paste entry at block j (omega (arith, w .room, w .inside)) (w .inside)
 
 pub copying-finish : (entry : List ℕ) (at : ℕ) (block plan : List ℕ) (j : ℕ) → Copying entry at block plan j → length block ≤ j
-    → plan ≡ written entry at block
-unfolding written
+    → plan ≡ withBlock entry at block
+unfolding withBlock
 copying-finish entry at block plan j w h =
     let e : j ≡ length block = omega (arith, w .inside) in
     w .planIs
@@ -170,10 +170,10 @@ copying-finish entry at block plan j w h =
     ∙ append-assoc (take at entry) block (drop (at + length block) entry)))
 
 -- the plan with the planner's own sequence
-pub sequence-written : (g s rows : List ℕ) (p r : ℕ) (plan block next : List ℕ) → Given g s rows p r
-    → block ≡ sequenceWords (sequenceOf g (idsOf g) s r) → next ≡ written plan (256 + 112 * r) block
-    → next ≡ written plan (256 + 112 * r) (sequenceWords (sequenceOf g (idsOf g) (setsOf g (idsOf g)) r))
+pub sequence-written : (g s rows : List ℕ) (p r : ℕ) (plan block next : List ℕ) → RuleGiven g s rows p r
+    → block ≡ sequenceWords (sequenceOf g (idsOf g) s r) → next ≡ withBlock plan (256 + 112 * r) block
+    → next ≡ withBlock plan (256 + 112 * r) (sequenceWords (sequenceOf g (idsOf g) (setsOf g (idsOf g)) r))
 sequence-written g s rows p r plan block next given e f =
     f
-    ∙ ap (written plan (256 + 112 * r))
+    ∙ ap (withBlock plan (256 + 112 * r))
     (e ∙ ap (λ (x : List ℕ). sequenceWords (sequenceOf g (idsOf g) x r)) (given .sets))

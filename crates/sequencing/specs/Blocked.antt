@@ -7,8 +7,8 @@ use Rattle.basics.specs.Lists.{word}
 use Rattle.bits.specs.Bit.{hasb}
 
 -- the rows of a rule are closed: what o leads to leads nowhere that o does not
-abbrev pub Closed : List ℕ → ℕ → Type 0
-Closed rows base =
+abbrev pub RowsClosed : List ℕ → ℕ → Type 0
+RowsClosed rows base =
     (o k b : ℕ) → o < 64 → T (hasb k (word rows (base + o))) → T (hasb b (word rows (base + k))) → T (hasb b (word rows (base + o)))
 
 -- what is blocked are the members of the rows of what waits, and no others

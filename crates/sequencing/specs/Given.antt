@@ -17,7 +17,7 @@ use Rattle.plans.specs.Answer.{edpPaths}
 
 -- What is known of rule r, which starts at word p: the table is accepted and ordered, s are its set words, and the rows of the rule
 -- hold the paths of its EDP.
-pub record Given (g s rows : List ℕ) (p r : ℕ) : Type 0 where
+pub record RuleGiven (g s rows : List ℕ) (p r : ℕ) : Type 0 where
   pub good : readTable g ≡ Good
   pub counts : r < rules g
   pub starts : p ≡ ruleAt g r
@@ -28,5 +28,5 @@ pub record Given (g s rows : List ℕ) (p r : ℕ) : Type 0 where
   pub paths : (o : ℕ) → o < 64 → word rows (64 * r + o) ≡ collect 64 (λ b. edpPaths g (idsOf g) (setsOf g (idsOf g)) r o b)
 
 -- a plan with the words from one on replaced by a block, all others as they were
-unfoldable pub written : List ℕ → ℕ → List ℕ → List ℕ
-written plan at block = take at plan ++ (block ++ drop (at + length block) plan)
+unfoldable pub withBlock : List ℕ → ℕ → List ℕ → List ℕ
+withBlock plan at block = take at plan ++ (block ++ drop (at + length block) plan)

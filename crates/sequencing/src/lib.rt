@@ -5,7 +5,7 @@ use grammar::SET_WORDS;
 use remaining::State;
 use remaining::Step;
 ghost use mathlib.Core.Path.{_≡_};
-ghost use Prim.Native.Nat.{_+_, _*_, _≤_, _<_};
+ghost use Prim.Native.Nat.{_+_, _*_, _≤_};
 ghost use lib.ListN.{length};
 ghost use Rattle.grammar.specs.Limits as limits;
 ghost use Rattle.grammar.specs.Table as table;
@@ -22,7 +22,7 @@ ghost use Rattle.sequencing.specs.Going as going;
 // The occurrences to which a path leads from one that waits. Where one that waits leads to another, the other blocks nothing more.
 fn blocked(rows: &[u64], base: usize, waiting: u64) -> u64
     requires { ⌜ base + 64 ≤ length (now rows) ⌝ }
-    requires { ⌜ blocking.Closed (now rows) base ⌝ }
+    requires { ⌜ blocking.RowsClosed (now rows) base ⌝ }
     ensures { λ r. ⌜ blocking.Blocked (now (rows .entry)) base waiting r ⌝ }
 {
     let mut left = waiting;
@@ -45,7 +45,7 @@ fn next(
     down: &[u64; 64],
     state: State,
 ) -> Step
-    requires { ⌜ given.Given (now words) (now sets) (now rows) p r ⌝ }
+    requires { ⌜ given.RuleGiven (now words) (now sets) (now rows) p r ⌝ }
     requires { ⌜ going.Going (now words) (idsOf (now words)) (now sets) r (spec.remains (state .computes) (state .visits) (state .leaves)) (state .waiting) ⌝ }
     requires { ⌜ 1 ≤ length (spec.remaining (spec.remains (state .computes) (state .visits) (state .leaves))) ⌝ }
     requires { ⌜ masks.Along (now words) (now sets) p (state .visits) (now down) ⌝ }
@@ -65,7 +65,7 @@ fn next(
 
 // The words of the sequence: length, actions, zeros.
 fn words_of(words: &[u16], p: usize, r: usize, sets: &[u16], rows: &[u64]) -> [u16; RULE_WORDS]
-    requires { ⌜ given.Given (now words) (now sets) (now rows) p r ⌝ }
+    requires { ⌜ given.RuleGiven (now words) (now sets) (now rows) p r ⌝ }
     ensures { λ block. ⌜ block ≡ sequenceWords (sequenceOf (now (words .entry)) (idsOf (now (words .entry))) (now (sets .entry)) r) ⌝ }
 {
     let mut state = remaining::start(words, p, sets);
@@ -84,7 +84,7 @@ fn words_of(words: &[u16], p: usize, r: usize, sets: &[u16], rows: &[u64]) -> [u
 // Writes a block of words into the plan.
 pub fn write(plan: &mut [u16], at: usize, block: &[u16])
     requires { ⌜ at + length (now block) ≤ length (now plan) ⌝ }
-    ensures { λ _. ⌜ now (plan .exit) ≡ given.written (now (plan .entry)) at (now (block .entry)) ⌝ }
+    ensures { λ _. ⌜ now (plan .exit) ≡ given.withBlock (now (plan .entry)) at (now (block .entry)) ⌝ }
 {
     for j in 0..block.len() {
         plan[at + j] = block[j];
@@ -100,9 +100,9 @@ pub fn sequence(
     rows: &[u64],
     plan: &mut [u16],
 )
-    requires { ⌜ given.Given (now words) (now sets) (now rows) p r ⌝ }
+    requires { ⌜ given.RuleGiven (now words) (now sets) (now rows) p r ⌝ }
     requires { ⌜ limits.planWords (table.rules (now words)) ≤ length (now plan) ⌝ }
-    ensures { λ _. ⌜ now (plan .exit) ≡ given.written (now (plan .entry)) (limits.planWords r) (sequenceWords (sequenceOf (now (words .entry)) (idsOf (now (words .entry))) (setsOf (now (words .entry)) (idsOf (now (words .entry)))) r)) ⌝ }
+    ensures { λ _. ⌜ now (plan .exit) ≡ given.withBlock (now (plan .entry)) (limits.planWords r) (sequenceWords (sequenceOf (now (words .entry)) (idsOf (now (words .entry))) (setsOf (now (words .entry)) (idsOf (now (words .entry)))) r)) ⌝ }
 {
     let block = words_of(words, p, r, sets, rows);
     write(plan, SET_WORDS + RULE_WORDS * r, &block);

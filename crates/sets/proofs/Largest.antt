@@ -8,12 +8,12 @@ use native.Mathlib.Omega.{arith}
 use Rattle.basics.proofs.TestLaws.{below-or-not}
 use Rattle.grammar.specs.Limits.{mostAttributes}
 use Rattle.grammar.specs.Table.{attributes}
-use Rattle.sets.specs.Paper.{Earlier, Collection, Largest}
+use Rattle.sets.specs.Paper.{PlacedEarlier, Collection, Largest}
 use Rattle.sets.specs.Computed.{mostSets, placedUpTo}
 use Rattle.sets.proofs.Placing.{
   Arc,
   numberAfter,
-  Taken,
+  TakenInto,
   taken-gets,
   keeps,
   number-at-most,
@@ -25,24 +25,24 @@ use Rattle.sets.proofs.Placing.{
 module _ (g ids : List ℕ) (x : ℕ) (few : attributes g x ≤ mostAttributes)
     (transitive : (a b c : ℕ) → Arc g ids x a b → Arc g ids x b c → Arc g ids x a c) where
   -- what a set takes has its number in the end
-  pub taken-ends : (j a : ℕ) → j < mostSets → Taken g ids x (placedUpTo g ids x j) (suc j) a → numberAfter g ids x mostSets a ≡ suc j
+  pub taken-ends : (j a : ℕ) → j < mostSets → TakenInto g ids x (placedUpTo g ids x j) (suc j) a → numberAfter g ids x mostSets a ≡ suc j
   taken-ends j a h t =
       let e = taken-gets g ids x j a (omega (arith, t .inside)) t in keeps g ids x (suc j) mostSets a h (omega arith) ∙ e
 
   module _ (j : ℕ) (h : j < mostSets) where
     -- the sets before are those of the attributes placed so far
-    placed-earlier : (b : ℕ) → 1 ≤ numberAfter g ids x j b → Earlier g x (Arc g ids x) (numberAfter g ids x mostSets) (suc j) b
+    placed-earlier : (b : ℕ) → 1 ≤ numberAfter g ids x j b → PlacedEarlier g x (Arc g ids x) (numberAfter g ids x mostSets) (suc j) b
     placed-earlier b l =
         omega (arith, keeps g ids x j mostSets b (omega arith) l, number-at-most g ids x j b)
 
     -- and of no other
     unplaced-not-earlier : (b : ℕ) → numberAfter g ids x j b ≡ 0
-        → Earlier g x (Arc g ids x) (numberAfter g ids x mostSets) (suc j) b → ⊥
+        → PlacedEarlier g x (Arc g ids x) (numberAfter g ids x mostSets) (suc j) b → ⊥
     unplaced-not-earlier b z l = omega (arith, later g ids x j mostSets b (omega arith) z (l .0), l .1)
 
     -- an unplaced successor of what the set takes is taken too
-    takes-successor : (a b : ℕ) → Taken g ids x (placedUpTo g ids x j) (suc j) a → Arc g ids x a b → numberAfter g ids x j b ≡ 0
-        → Taken g ids x (placedUpTo g ids x j) (suc j) b
+    takes-successor : (a b : ℕ) → TakenInto g ids x (placedUpTo g ids x j) (suc j) a → Arc g ids x a b → numberAfter g ids x j b ≡ 0
+        → TakenInto g ids x (placedUpTo g ids x j) (suc j) b
     takes-successor a b t r z =
         record {
           inside = r .1;
@@ -65,7 +65,7 @@ module _ (g ids : List ℕ) (x : ℕ) (few : attributes g x ≤ mostAttributes)
 
     -- a member of any collection is taken
     member-taken : (member : ℕ → Type 0) → Collection g x (Arc g ids x) (numberAfter g ids x mostSets) (suc j) member
-        → (a : ℕ) → member a → Taken g ids x (placedUpTo g ids x j) (suc j) a
+        → (a : ℕ) → member a → TakenInto g ids x (placedUpTo g ids x j) (suc j) a
     member-taken member c a m =
         record {
           inside = c .attributeOf a m;

@@ -11,11 +11,11 @@ use Rattle.sets.specs.Paper.{Collection, Sets}
 
 module _ (g : List ℕ) (x : ℕ) (ids : ℕ → ℕ → Type 0) where
   -- what is below k in the first numbering has the same number in the second
-  abbrev Agree : (ℕ → ℕ) → (ℕ → ℕ) → ℕ → Type 0
-  Agree s t k = (a : ℕ) → 1 ≤ s a → s a < k → t a ≡ s a
+  abbrev AgreeBelow : (ℕ → ℕ) → (ℕ → ℕ) → ℕ → Type 0
+  AgreeBelow s t k = (a : ℕ) → 1 ≤ s a → s a < k → t a ≡ s a
 
   -- set k of the first is a collection over the second
-  carried : (s t : ℕ → ℕ) → Sets g x ids s → (k : ℕ) → 1 ≤ k → Agree s t k → Agree t s k → Collection g x ids t k (λ a. s a ≡ k)
+  carried : (s t : ℕ → ℕ) → Sets g x ids s → (k : ℕ) → 1 ≤ k → AgreeBelow s t k → AgreeBelow t s k → Collection g x ids t k (λ a. s a ≡ k)
   carried s t v k h forth back =
       record {
         attributeOf = v .each k h .collection .attributeOf;
@@ -27,11 +27,11 @@ module _ (g : List ℕ) (x : ℕ) (ids : ℕ → ℕ → Type 0) where
       }
 
   module _ (s t : ℕ → ℕ) (v : Sets g x ids s) (w : Sets g x ids t) where
-    both : (k : ℕ) → Agree s t k × Agree t s k
+    both : (k : ℕ) → AgreeBelow s t k × AgreeBelow t s k
     both zero = (λ a h l. absurd (omega arith), λ a h l. absurd (omega arith))
     both (suc k) = go (both k)
       where
-        go : Agree s t k × Agree t s k → Agree s t (suc k) × Agree t s (suc k)
+        go : AgreeBelow s t k × AgreeBelow t s k → AgreeBelow s t (suc k) × AgreeBelow t s (suc k)
         go (forth, back) = (
           λ a h l.
               ⊎-elim (λ m. forth a h m)

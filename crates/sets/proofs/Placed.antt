@@ -19,7 +19,7 @@ use Rattle.sets.proofs.Sinks.{Sink, sink-exists}
 use Rattle.sets.proofs.Placing.{
   Arc,
   numberAfter,
-  Taken,
+  TakenInto,
   taken-gets,
   step-cases,
   keeps,
@@ -44,14 +44,14 @@ module _ (g ids : List ℕ) (x : ℕ) (few : attributes g x ≤ mostAttributes)
 
   -- the next set takes an attribute, where one is left after a set
   next-takes : (k a : ℕ) → a < attributes g x → numberAfter g ids x (suc k) a ≡ 0
-      → (s : ℕ) × Taken g ids x (placedUpTo g ids x (suc k)) (suc (suc k)) s
+      → (s : ℕ) × TakenInto g ids x (placedUpTo g ids x (suc k)) (suc (suc k)) s
   next-takes k a l z =
       let w = left-sink (suc k) a l z in
       (w .sink, taken w (class-or-next g x (suc k) (w .sink)))
     where
       taken : (w : Sink (attributes g x) (λ a b. arcIn ids x a b) (λ b. unplaced (placedUpTo g ids x (suc k)) b))
           → T (ofClass g x (suc k) (w .sink)) ⊎ T (ofClass g x (suc (suc k)) (w .sink))
-          → Taken g ids x (placedUpTo g ids x (suc k)) (suc (suc k)) (w .sink)
+          → TakenInto g ids x (placedUpTo g ids x (suc k)) (suc (suc k)) (w .sink)
       taken w (inl c) =
           let free : numberAfter g ids x (suc k) (w .sink) ≡ 0 = eqb→eq (numberAfter g ids x (suc k) (w .sink)) 0 (w .passes) in
           absurd (omega (
@@ -78,7 +78,7 @@ module _ (g ids : List ℕ) (x : ℕ) (few : attributes g x ≤ mostAttributes)
   placedCount k = count (attributes g x) (λ b. ltb 0 (numberAfter g ids x k b))
 
   -- a set that takes an attribute raises the count
-  grows : (k s : ℕ) → Taken g ids x (placedUpTo g ids x k) (suc k) s → placedCount k < placedCount (suc k)
+  grows : (k s : ℕ) → TakenInto g ids x (placedUpTo g ids x k) (suc k) s → placedCount k < placedCount (suc k)
   unfolding placedCount
   grows k s t =
       count-more (attributes g x) (λ b. ltb 0 (numberAfter g ids x k b)) (λ b. ltb 0 (numberAfter g ids x (suc k) b))

@@ -44,7 +44,7 @@ abbrev pub numberAfter : List ℕ → List ℕ → ℕ → ℕ → ℕ → ℕ
 numberAfter g ids x k a = word (placedUpTo g ids x k) a
 
 -- set k takes attribute a: it is an unplaced attribute of the class, and its unplaced successors are of the class too
-pub record Taken (g ids : List ℕ) (x : ℕ) (placed : List ℕ) (k a : ℕ) : Type 0 where
+pub record TakenInto (g ids : List ℕ) (x : ℕ) (placed : List ℕ) (k a : ℕ) : Type 0 where
   pub inside : a < attributes g x
   pub free : word placed a ≡ 0
   pub class : T (ofClass g x k a)
@@ -52,7 +52,7 @@ pub record Taken (g ids : List ℕ) (x : ℕ) (placed : List ℕ) (k a : ℕ) : 
 
 module _ (g ids : List ℕ) (x : ℕ) where
   -- the test of set k passes where this holds
-  pub takes-where : (placed : List ℕ) (k a : ℕ) → Taken g ids x placed k a → T (takes g ids x placed k a)
+  pub takes-where : (placed : List ℕ) (k a : ℕ) → TakenInto g ids x placed k a → T (takes g ids x placed k a)
   unfolding takes
   takes-where placed k a t =
       and-intro _ _ (lt→ltb a (attributes g x) (t .inside))
@@ -62,7 +62,7 @@ module _ (g ids : List ℕ) (x : ℕ) where
       implies-intro _ _ (λ p. t .successors b (t .inside, l, and-left _ _ p) (eqb→eq (word placed b) 0 (and-right _ _ p)))))))
 
   -- what the test of set k says, once it has passed
-  pub takes-means : (placed : List ℕ) (k a : ℕ) → T (takes g ids x placed k a) → Taken g ids x placed k a
+  pub takes-means : (placed : List ℕ) (k a : ℕ) → T (takes g ids x placed k a) → TakenInto g ids x placed k a
   unfolding takes
   takes-means placed k a t =
       record {
@@ -98,7 +98,7 @@ module _ (g ids : List ℕ) (x : ℕ) where
       getD-tabulate mostAttributes (λ a. cond (takes g ids x (placedUpTo g ids x k) (suc k) a) (suc k) (numberAfter g ids x k a)) 0 a h
 
   -- what set k + 1 takes gets the number k + 1
-  pub taken-gets : (k a : ℕ) → a < mostAttributes → Taken g ids x (placedUpTo g ids x k) (suc k) a → numberAfter g ids x (suc k) a ≡ suc k
+  pub taken-gets : (k a : ℕ) → a < mostAttributes → TakenInto g ids x (placedUpTo g ids x k) (suc k) a → numberAfter g ids x (suc k) a ≡ suc k
   taken-gets k a h t =
       one-step k a h
       ∙ go (takes g ids x (placedUpTo g ids x k) (suc k) a) (takes-where (placedUpTo g ids x k) (suc k) a t)
@@ -108,7 +108,7 @@ module _ (g ids : List ℕ) (x : ℕ) where
       go false p = absurd p
 
   -- a step takes the attribute or leaves its number
-  pub step-cases : (k a : ℕ) → (Taken g ids x (placedUpTo g ids x k) (suc k) a × (numberAfter g ids x (suc k) a ≡ suc k))
+  pub step-cases : (k a : ℕ) → (TakenInto g ids x (placedUpTo g ids x k) (suc k) a × (numberAfter g ids x (suc k) a ≡ suc k))
       ⊎ (numberAfter g ids x (suc k) a ≡ numberAfter g ids x k a)
   step-cases k a =
       ⊎-elim
@@ -160,10 +160,10 @@ module _ (g ids : List ℕ) (x : ℕ) where
       (below-or-not (numberAfter g ids x j a) 1)
 
   -- an attribute with number j + 1 was taken at that step
-  pub taken-at : (j k a : ℕ) → numberAfter g ids x k a ≡ suc j → Taken g ids x (placedUpTo g ids x j) (suc j) a
+  pub taken-at : (j k a : ℕ) → numberAfter g ids x k a ≡ suc j → TakenInto g ids x (placedUpTo g ids x j) (suc j) a
   taken-at j zero a e = absurd (omega (arith, none-at-first a))
   taken-at j (suc k) a e =
-      ⊎-elim (λ t. let q : k ≡ j = omega (arith, t .1) in subst (λ (i : ℕ). Taken g ids x (placedUpTo g ids x i) (suc i) a) q (t .0))
+      ⊎-elim (λ t. let q : k ≡ j = omega (arith, t .1) in subst (λ (i : ℕ). TakenInto g ids x (placedUpTo g ids x i) (suc i) a) q (t .0))
       (λ q. taken-at j k a (sym q ∙ e)) (step-cases k a)
 
   -- only attributes are placed

@@ -14,7 +14,7 @@ use Rattle.sets.specs.Paper.{ofClass}
 use Rattle.sets.specs.Visits.{setNumber, highest, lastSet, visits, visitOfSet, visitOf}
 use Rattle.sets.specs.Computed.{mostSets, setsOf}
 use Rattle.sets.proofs.Classes.{inherited-even, synthesized-odd}
-use Rattle.sets.proofs.SetWords.{number-nine, number-of-class}
+use Rattle.sets.proofs.SetWords.{number-nine}
 
 -- the highest is an upper bound
 pub highest-bounds : (n : ℕ) (f : ℕ → ℕ) (i : ℕ) → i < n → f i ≤ highest n f
@@ -80,11 +80,6 @@ module _ (s : List ℕ) (x : ℕ) where
   unfolding visits visitOfSet
   last-visit k h l = omega arith
 
-  -- an earlier visit has the higher sets
-  pub visits-fall : (k l : ℕ) → k ≤ l → visitOfSet s x l ≤ visitOfSet s x k
-  unfolding visitOfSet
-  visits-fall k l h = omega arith
-
   -- visit n has the even set 2 (v + 1 - n)
   pub even-set : (k : ℕ) → k ≤ lastSet s x → k % 2 ≡ 0 → k ≡ 2 * (visits s x + 1 - visitOfSet s x k)
   unfolding visits visitOfSet
@@ -121,13 +116,3 @@ module _ (g ids : List ℕ) (x : ℕ) where
   pub visits-five : visits (setsOf g ids) x ≤ 5
   unfolding visits
   visits-five = omega (arith, last-set-nine)
-
-  -- the inherited attributes of visit n, in a plan's set words
-  pub inherited-of-visit : (a n : ℕ) → a < mostAttributes → 1 ≤ setNumber (setsOf g ids) x a → T (inherited g x a)
-      → visitOf (setsOf g ids) x a ≡ n → setNumber (setsOf g ids) x a ≡ 2 * (visits (setsOf g ids) x + 1 - n)
-  inherited-of-visit a n l h i e = inherited-set (setsOf g ids) x g a n l (number-of-class g ids x a l h) i e
-
-  -- the synthesized ones
-  pub synthesized-of-visit : (a n : ℕ) → a < mostAttributes → 1 ≤ setNumber (setsOf g ids) x a → T (not (inherited g x a))
-      → visitOf (setsOf g ids) x a ≡ n → setNumber (setsOf g ids) x a ≡ 2 * (visits (setsOf g ids) x + 1 - n) - 1
-  synthesized-of-visit a n l h i e = synthesized-set (setsOf g ids) x g a n l (number-of-class g ids x a l h) i e

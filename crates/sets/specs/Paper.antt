@@ -14,15 +14,15 @@ ofClass g x k a = eqb (k % 2) (cond (inherited g x a) 0 1)
 
 module _ (g : List ℕ) (x : ℕ) (ids : ℕ → ℕ → Type 0) (set : ℕ → ℕ) where
   -- a is in one of the sets 1..k-1
-  abbrev pub Earlier : ℕ → ℕ → Type 0
-  Earlier k a = (1 ≤ set a) × (set a < k)
+  abbrev pub PlacedEarlier : ℕ → ℕ → Type 0
+  PlacedEarlier k a = (1 ≤ set a) × (set a < k)
 
   -- "unplaced attributes of its class whose IDS successors are all in sets 1..k", where set k is the collection itself
   pub record Collection (k : ℕ) (member : ℕ → Type 0) : Type 0 where
     pub attributeOf : (a : ℕ) → member a → a < attributes g x
-    pub unplaced : (a : ℕ) → member a → Earlier k a → ⊥
+    pub unplaced : (a : ℕ) → member a → PlacedEarlier k a → ⊥
     pub class : (a : ℕ) → member a → T (ofClass g x k a)
-    pub successors : (a b : ℕ) → member a → ids a b → Earlier k b ⊎ member b
+    pub successors : (a b : ℕ) → member a → ids a b → PlacedEarlier k b ⊎ member b
 
   -- "Set k is the largest collection"
   pub record Largest (k : ℕ) : Type 1 where

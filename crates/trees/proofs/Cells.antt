@@ -66,10 +66,6 @@ unfolding nodeAt
 node-child t n zero e = absurd (omega arith)
 node-child t n (suc i) e = refl
 
--- "value 8n + a": different attributes have different cells
-pub different-cells : (n a m b : ℕ) → a < 8 → b < 8 → 8 * n + a ≡ 8 * m + b → (n ≡ m) × (a ≡ b)
-different-cells n a m b h l e = (omega arith, omega arith)
-
 module _ {g t : List ℕ} {l : ℕ} (table : WellFormed g) (tree : TreeFormed g t l) where
   rule-formed : (n : ℕ) → n < nodes t → T (appliesRule t n) → RuleFormed g (ruleOf t n)
   rule-formed n h a = table .rule (ruleOf t n) (tree .ruleKnown n h a)

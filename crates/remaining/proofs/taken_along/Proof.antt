@@ -3,12 +3,12 @@
 use Rattle.bits.proofs.RestLaws.{rest-of}
 use borrow.Author.Needs.{needs}
 use Rattle.remaining.proofs.MemberWalks.{left-less}
-use Rattle.remaining.proofs.AlongLaws.{Filling, filling-start, filling-child, filling-turn, filling-finish, along-small}
+use Rattle.remaining.proofs.AlongLaws.{TakingAlong, filling-start, filling-child, filling-turn, filling-finish, along-small}
 use Rattle.remaining.proofs.taken_along.Statement.{statement}
 use Rattle.remaining.proofs.taken_along.Tie as tie
 
 abbrev Inv-loop : tie.InvT-loop
-Inv-loop words p sets visits down₀ left₀ down left = Filling words sets p visits left down
+Inv-loop words p sets visits down₀ left₀ down left = TakingAlong words sets p visits left down
 
 abbrev μ-loop : tie.MeasureT-loop
 μ-loop words p sets visits down₀ left₀ down left = left
