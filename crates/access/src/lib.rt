@@ -1,5 +1,6 @@
 // The words of a grammar table by symbol, rule and function.
 // A rule is handed on as the word it starts at, a function too; specs/ByPlace.antt says what each is by that word.
+use grammar::Offsets;
 ghost use mathlib.Core.Path.{_≡_};
 ghost use Prim.Native.Nat.{_+_, _*_, _^_, _≤_, _<_};
 ghost use lib.ListN.{length, getD};
@@ -71,6 +72,21 @@ pub fn nonterminal(words: &[u16], x: usize) -> bool
     ensures { λ r. ⌜ r ≡ table.nonterminal (now (words .entry)) x ⌝ }
 {
     kind(words, x) == 0
+}
+
+// A word as a place in the table.
+fn place(p: u16) -> usize
+    ensures { λ r. ⌜ r ≡ p ⌝ }
+{
+    p as usize
+}
+
+// The word at which rule r starts, by the offsets that reading hands on.
+pub fn rule_at(offsets: &Offsets, r: usize) -> usize
+    requires { ⌜ r < 64 ⌝ }
+    ensures { λ p. ⌜ p ≡ getD (now (offsets .entry)) r 0 ⌝ }
+{
+    place(offsets[r])
 }
 
 // The rule at word p: its right length, the symbol at a position, how many functions, and where the first one starts.
