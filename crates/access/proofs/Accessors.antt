@@ -1,7 +1,7 @@
 -- What callers of the accessors need: from an accepted table and a rule's offset to the views by number.
 -- Assumes nothing.
 use Prim.Native.Nat.{ℕ, suc, _-_, _≤_, _<_}
-use mathlib.Core.Path.{_≡_, sym, _∙_, ap, subst}
+use mathlib.Core.Path.{_≡_, refl, sym, _∙_, ap, subst}
 use mathlib.Core.List.{List}
 use native.Mathlib.Omega.{arith}
 use lib.ListN.{length, getD, replicate, List·getD-append}
@@ -14,7 +14,7 @@ use Rattle.grammar.specs.Reading.{readTable}
 use Rattle.grammar.specs.WellFormed.{WellFormed}
 use Rattle.grammar.proofs.AcceptedTable.{accepted}
 use Rattle.grammar.proofs.RuleStarts.{rules-rise, no-longer-table}
-use Rattle.access.specs.Offsets.{offsetsFor}
+use Rattle.access.specs.Offsets.{offsetsFor, RuleOf}
 use Rattle.access.specs.ByPlace.{symbolFrom, nextFunction, occurrencesAt, definingsAt, Shaped}
 use Rattle.access.proofs.Same.{symbol-same, occurrences-same, definings-same}
 
@@ -46,14 +46,37 @@ module _ (g : List ℕ) (r p : ℕ) (e : p ≡ ruleAt g r) where
             (subst (λ (x : ℕ). x < symbols g) (sym (symbol-same g r i)) (w .rule r h .symbolsFit i l));
       })
 
--- the offsets of an accepted table are where its rules start, which is before its end
-pub offset-of : (g : List ℕ) (r : ℕ) → readTable g ≡ Good → r < rules g → getD (offsetsFor g (readTable g)) r 0 ≡ ruleAt g r
+-- the offsets of an accepted table are where its rules start
+pub offset-is : (g offsets : List ℕ) (r p : ℕ) → offsets ≡ offsetsFor g Good → r < rules g → p ≡ getD offsets r 0 → p ≡ ruleAt g r
 unfolding offsetsFor padded
-offset-of g r good h =
-    ap (λ v. getD (offsetsFor g v) r 0) good
+offset-is g offsets r p e h q =
+    q
+    ∙ (ap (λ (s : List ℕ). getD s r 0) e
     ∙ (List·getD-append (tabulate (rules g) (λ n. ruleAt g n)) (replicate (64 - length (tabulate (rules g) (λ n. ruleAt g n))) 0) 0 r
     (omega (arith, length-tabulate (rules g) (λ n. ruleAt g n)))
-    ∙ getD-tabulate (rules g) (λ n. ruleAt g n) 0 r h)
+    ∙ getD-tabulate (rules g) (λ n. ruleAt g n) 0 r h))
 
+pub offset-of : (g : List ℕ) (r : ℕ) → readTable g ≡ Good → r < rules g → getD (offsetsFor g (readTable g)) r 0 ≡ ruleAt g r
+offset-of g r good h = offset-is g (offsetsFor g (readTable g)) r _ (ap (offsetsFor g) good) h refl
+
+-- and that is before its end
 pub rule-fits : (g : List ℕ) (r : ℕ) → readTable g ≡ Good → r ≤ rules g → ruleAt g r ≤ 25315
 rule-fits g r good h = omega (arith, rules-rise g r (rules g) h, accepted g good .ends, no-longer-table g good)
+
+-- one of the first n rules, where these are all
+pub rule-of : (g offsets : List ℕ) (r n : ℕ) → readTable g ≡ Good → offsets ≡ offsetsFor g Good → n ≡ rules g → r < n → RuleOf g offsets r
+rule-of g offsets r n good o e h = record { good = good; offsetsAre = o; inside = omega arith }
+
+module _ (g offsets : List ℕ) (r : ℕ) (w : RuleOf g offsets r) where
+  pub rule-small : r < 64
+  rule-small = omega (arith, w .inside, accepted g (w .good) .rulesFit)
+
+  module _ (p : ℕ) (e : p ≡ getD offsets r 0) where
+    pub rule-starts : p ≡ ruleAt g r
+    rule-starts = offset-is g offsets r p (w .offsetsAre) (w .inside) e
+
+    pub rule-near : p < 65536
+    rule-near = omega (arith, rule-starts, w .inside, rule-fits g r (w .good) (omega (arith, w .inside)))
+
+    pub rule-shaped : Shaped g p
+    rule-shaped = shaped-rule g r p rule-starts (w .good) (w .inside)

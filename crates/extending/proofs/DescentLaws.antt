@@ -2,7 +2,7 @@
 -- Assumes nothing.
 use Prim.Native.Nat.{ℕ, _+_, _*_, _-_, _/_, _%_, _^_, _≤_, _<_}
 use mathlib.Core.Path.{_≡_, refl, sym, _∙_, ap, ap₂, subst, subst⁻¹}
-use mathlib.Core.Bool.{Bool, true, false}
+use mathlib.Core.Bool.{Bool, true, false, cond}
 use mathlib.Core.List.{List}
 use native.Mathlib.Omega.{arith}
 use native.Mathlib.Numerals.{add-one}
@@ -21,7 +21,7 @@ use Rattle.grammar.specs.Reading.{readTable}
 use Rattle.grammar.specs.Table.{symbols, attributes}
 use Rattle.grammar.proofs.AcceptedTable.{accepted}
 use Rattle.basics.proofs.ListLaws.{padded-none, padded-more}
-use Rattle.extending.specs.Descents.{descends, descentsOf, orderOf}
+use Rattle.extending.specs.Descents.{descends, descentsOf, orderTo, orderOf}
 
 -- the test's two ways
 pub descends-here : (s : List ℕ) (p count k : ℕ) (t : Bool) → k % 8 < count → t ≡ ltb (getD s (p + k % 8) 0) (getD s (p + k / 8) 0)
@@ -39,54 +39,51 @@ pub collect-none : (f : ℕ → Bool) → 0 ≡ collect 0 f
 unfolding collect
 collect-none f = refl
 
-pub collect-with : (f : ℕ → Bool) (k s v : ℕ) (t : Bool) → s ≡ collect k f → t ≡ f k → t ≡ true → v ≡ insert k s → v ≡ collect (k + 1) f
+pub collect-put : (f : ℕ → Bool) (k s v : ℕ) (t : Bool) → s ≡ collect k f → t ≡ f k → v ≡ cond t (insert k s) s → v ≡ collect (k + 1) f
 unfolding collect insert
-collect-with f k s v t e h i q =
+collect-put f k s v t e h q =
     q
-    ∙ (ap (λ (x : ℕ). x + (1 - bit k x) * 2 ^ k) e
-    ∙ (ap (λ (b : ℕ). collect k f + (1 - b) * 2 ^ k) (bit-collect-above k k f (omega arith))
-    ∙ (ap (λ (b : Bool). collect k f + number b * 2 ^ k) (sym (sym h ∙ i)) ∙ ap (λ (n : ℕ). collect n f) (sym (add-one k)))))
-
-pub collect-over : (f : ℕ → Bool) (k s : ℕ) (t : Bool) → s ≡ collect k f → t ≡ f k → t ≡ false → s ≡ collect (k + 1) f
-unfolding collect
-collect-over f k s t e h i =
-    e
-    ∙ (skip ∙ (ap (λ (b : Bool). collect k f + number b * 2 ^ k) (sym (sym h ∙ i)) ∙ ap (λ (n : ℕ). collect n f) (sym (add-one k))))
+    ∙ (ap (λ (x : ℕ). cond t (x + (1 - bit k x) * 2 ^ k) x) e
+    ∙ (ap (λ (b : ℕ). cond t (collect k f + (1 - b) * 2 ^ k) (collect k f)) (bit-collect-above k k f (omega arith))
+    ∙ (either t ∙ (ap (λ (b : Bool). collect k f + number b * 2 ^ k) h ∙ ap (λ (n : ℕ). collect n f) (sym (add-one k))))))
   where
-    skip : collect k f ≡ collect k f + 0 * 2 ^ k
-    skip = omega arith
+    either : (b : Bool) → cond b (collect k f + 1 * 2 ^ k) (collect k f) ≡ collect k f + number b * 2 ^ k
+    either true = refl
+    either false = omega arith
 
 pub collect-end : (f : ℕ → Bool) (k n s : ℕ) → s ≡ collect k f → k ≤ n → n ≤ k → s ≡ collect n f
 collect-end f k n s e h l = let q : k ≡ n = omega arith in e ∙ ap (λ (m : ℕ). collect m f) q
 
+pub symbol-small : (g : List ℕ) → readTable g ≡ Good → (n x : ℕ) → n ≡ symbols g → x < n → x < 32
+symbol-small g good n x e h = omega (arith, accepted g good .symbolsFit)
+
+pub symbol-inside : (g : List ℕ) (n x : ℕ) → n ≡ symbols g → x < n → x < symbols g
+symbol-inside g n x e h = omega arith
+
+pub few-attributes : (g : List ℕ) → readTable g ≡ Good → (x c : ℕ) → x < symbols g → c ≡ attributes g x → c ≤ 8
+few-attributes g good x c h q = omega (arith, accepted g good .symbol x h .attributesFit)
+
+pub order-here : (g s : List ℕ) (x count v : ℕ) → count ≡ attributes g x → v ≡ collect (8 * count) (λ k. descends s (8 * x) count k) → v ≡ descentsOf g s x
+unfolding descentsOf
+order-here g s x count v c q = q ∙ ap (λ (n : ℕ). collect (8 * n) (λ k. descends s (8 * x) n k)) c
+
 -- symbol by symbol
-pub order-start : (g s : List ℕ) → replicate 32 0 ≡ padded 32 (tabulate 0 (λ x. descentsOf g s x))
-unfolding tabulate
+pub order-start : (g s : List ℕ) → replicate 32 0 ≡ orderTo g s 0
+unfolding orderTo tabulate
 order-start g s = sym (padded-none 32)
 
-pub order-turn : (g s arcs : List ℕ) (x count v : ℕ) → arcs ≡ padded 32 (tabulate x (λ x. descentsOf g s x)) → x < 32 → count ≡ attributes g x
-    → v ≡ collect (8 * count) (λ k. descends s (8 * x) count k) → set arcs x v ≡ padded 32 (tabulate (x + 1) (λ x. descentsOf g s x))
-unfolding descentsOf
-order-turn g s arcs x count v e h c q =
-    ap₂ (λ (l : List ℕ) (w : ℕ). set l x w) e (q ∙ ap (λ (n : ℕ). collect (8 * n) (λ k. descends s (8 * x) n k)) c)
-    ∙ padded-more 32 x (λ x. descentsOf g s x) h
+pub order-turn : (g s arcs : List ℕ) (x v : ℕ) → x < 32 → arcs ≡ orderTo g s x → v ≡ descentsOf g s x → set arcs x v ≡ orderTo g s (x + 1)
+unfolding orderTo
+order-turn g s arcs x v h e q = ap₂ (λ (l : List ℕ) (w : ℕ). set l x w) e q ∙ padded-more 32 x (λ x. descentsOf g s x) h
 
-pub order-end : (g s arcs : List ℕ) (x n : ℕ) → arcs ≡ padded 32 (tabulate x (λ x. descentsOf g s x)) → n ≡ getD g 0 0 → x ≤ n → n ≤ x
-    → arcs ≡ orderOf g s
+pub order-end : (g s arcs : List ℕ) (x n : ℕ) → arcs ≡ orderTo g s x → n ≡ symbols g → x ≤ n → n ≤ x → arcs ≡ orderOf g s
 unfolding orderOf
-order-end g s arcs x n e q h l =
-    let z : x ≡ symbols g = omega arith in e ∙ ap (λ (m : ℕ). padded 32 (tabulate m (λ x. descentsOf g s x))) z
-
-pub few-symbols : (g : List ℕ) → readTable g ≡ Good → (n : ℕ) → n ≡ getD g 0 0 → n ≤ 32
-few-symbols g good n e = omega (arith, accepted g good .symbolsFit)
-
-pub few-attributes : (g : List ℕ) → readTable g ≡ Good → (n x c : ℕ) → n ≡ getD g 0 0 → x < n → c ≡ attributes g x → c ≤ 8
-few-attributes g good n x c e h q = omega (arith, accepted g good .symbol x (omega arith) .attributesFit)
+order-end g s arcs x n e q h l = let z : x ≡ symbols g = omega arith in e ∙ ap (orderTo g s) z
 
 -- what a member says, and when a number is one
 module _ (g : List ℕ) (good : readTable g ≡ Good) (s : List ℕ) (x : ℕ) (h : x < symbols g) where
   order-word : word (orderOf g s) x ≡ descentsOf g s x
-  unfolding orderOf padded
+  unfolding orderOf orderTo padded
   order-word =
       List·getD-append (tabulate (symbols g) (λ x. descentsOf g s x)) _ 0 x (omega (arith, length-tabulate (symbols g) (λ x. descentsOf g s x)))
       ∙ getD-tabulate (symbols g) (λ x. descentsOf g s x) 0 x h

@@ -7,12 +7,12 @@ use mathlib.Core.Bool.{Bool}
 use mathlib.Core.List.{List}
 use native.Mathlib.Omega.{arith}
 use lib.Dec.{T}
-use lib.ListN.{length}
+use lib.ListN.{length, getD}
 use Rattle.bits.specs.Bit.{hasb}
 use Rattle.basics.specs.Lists.{word}
 use Rattle.basics.proofs.TestLaws.{below-suc}
 use Rattle.grammar.specs.declared.Verdict.the-variants.{Good}
-use Rattle.grammar.specs.Table.{symbols, rules, lengthAt, ruleAt, rightLength, symbolOf}
+use Rattle.grammar.specs.Table.{symbols, rules, lengthAt, rightLength, symbolOf}
 use Rattle.grammar.specs.Reading.{readTable}
 use Rattle.grammar.specs.WellFormed.{WellFormed}
 use Rattle.grammar.proofs.AcceptedTable.{accepted}
@@ -24,14 +24,16 @@ use Rattle.relations.proofs.Occurrences.{occurs-below, stands-symbol, attribute
 use Rattle.relations.proofs.ExactIdp.{idp-path-exact}
 use Rattle.relations.proofs.Induced.{idp-path-from, idp-path-to}
 use Rattle.sets.specs.Visits.{setNumber}
-use Rattle.sets.specs.Computed.{setsOf}
 use Rattle.sets.proofs.SetWords.{Numbered, numbered}
 use Rattle.order.specs.Paper.{Beside, EDP}
 use Rattle.order.proofs.ExactEdp.{edp-path-exact}
 use Rattle.order.proofs.WholeGrammar.{idp-edp}
+use Rattle.access.specs.Offsets.{RuleOf}
 use Rattle.access.specs.ByPlace.{occurrencesAt}
+use Rattle.access.proofs.Accessors.{rule-starts}
 use Rattle.access.proofs.Same.{symbol-same}
 use Rattle.closing.specs.Rows.{leads}
+use Rattle.closing.proofs.ClosedLaws.{Kept}
 use Rattle.plans.specs.Buffers.{over, rowsOf}
 use Rattle.plans.specs.Answer.{idpPaths, edpPaths}
 use Rattle.inducing.specs.Closes.{Closes}
@@ -41,15 +43,8 @@ use Rattle.inducing.proofs.RowLaws.{over-leads, over-below}
 use Rattle.inducing.proofs.RuleRowLaws.{counts, occurs-among, standing, attribute-among, among-small}
 use Rattle.inducing.proofs.HoldsLaws.{frame-none, frame-then, frame-turn, holds-lower, holds-turn, holds-rows}
 use Rattle.inducing.proofs.InduceLaws.{idp-trans, closes-at}
-use Rattle.extending.specs.Descents.{orderOf}
+use Rattle.extending.specs.Descents.{orderOf, numbers, Down}
 use Rattle.extending.proofs.DescentLaws.{descent-from, descent-has}
-
--- the set numbers of a table, and the arcs of rule r that lead down in them
-abbrev pub numbers : List ℕ → List ℕ
-numbers g = setsOf g (idsOf g)
-
-abbrev pub Down : List ℕ → ℕ → ℕ → ℕ → Type 0
-Down g r a b = SpreadArc g (ruleAt g r) (orderOf g (numbers g)) (lengthAt g (ruleAt g r) + 1) a b
 
 -- what the rows have once the first n rules have theirs
 abbrev pub Lower : List ℕ → ℕ → ℕ → ℕ → ℕ → Type 0
@@ -103,15 +98,6 @@ module _ (g : List ℕ) (good : readTable g ≡ Good) where
       let m = descent-from g good (numbers g) (symbolOf g r i) (formed .rule r h .symbolsFit i l) k t in
       (attribute-among g good r i (k / 8) h l (m .0), attribute-among g good r i (k % 8) h l (m .1))
 
-  pub down-fits : (arcs s : List ℕ) (r p among : ℕ) → arcs ≡ orderOf g s → s ≡ numbers g → r < rules g → p ≡ ruleAt g r → among ≡ occurrencesAt g p
-      → ArcsFit g p among arcs
-  unfolding rightLength
-  down-fits arcs s r p among o q h e a =
-      subst⁻¹ (λ (l : List ℕ). ArcsFit g p among l) (o ∙ ap (orderOf g) q)
-      (subst⁻¹ (λ (n : ℕ). ArcsFit g p n (orderOf g (numbers g))) a
-      (subst⁻¹ (λ (q : ℕ). ArcsFit g q (occurrencesAt g q) (orderOf g (numbers g))) e
-      (λ i l k t. descent-among r i k h l (subst (λ (x : ℕ). T (hasb k (word (orderOf g (numbers g)) x))) (symbol-same g r i) t))))
-
   down-small : (r a b : ℕ) → r < rules g → Down g r a b → a < 64
   unfolding rightLength
   down-small r a b h s =
@@ -160,13 +146,10 @@ module _ (g : List ℕ) (good : readTable g ≡ Good) where
         }
 
   -- one rule more
-  pub extending-turn : (entry rows : List ℕ) (n p among : ℕ) (arcs s after : List ℕ) → Extending g entry n rows → n < rules g → p ≡ ruleAt g n
-      → among ≡ occurrencesAt g p → arcs ≡ orderOf g s → s ≡ numbers g → Closes rows (64 * n) among (SpreadArc g p arcs (lengthAt g p + 1)) after
-      → Extending g entry (n + 1) after
-  extending-turn entry rows n p among arcs s after w h e a o q u =
-      let v : Closes rows (64 * n) (occurrencesOf g n) (Down g n) after =
-      closes-at g rows after n p among (λ q. SpreadArc g q (orderOf g (numbers g)) (lengthAt g q + 1)) e a
-      (subst (λ (l : List ℕ). Closes rows (64 * n) among (SpreadArc g p l (lengthAt g p + 1)) after) (o ∙ ap (orderOf g) q) u) in
+  pub extending-turn : (entry rows : List ℕ) (n count : ℕ) (after : List ℕ) → Extending g entry n rows → count ≡ rules g → n < count
+      → Closes rows (64 * n) (occurrencesOf g n) (Down g n) after → Extending g entry (n + 1) after
+  extending-turn entry rows n count after w e l v =
+      let h : n < rules g = omega arith in
       record {
         bound = omega arith;
         holds =
@@ -209,6 +192,10 @@ module _ (g : List ℕ) (good : readTable g ≡ Good) where
       inl (IDP⁺.one r m n (IDP.induced r i x a b m n (w .stands) e (w .firstIs) (w .secondIs)))
   edp-lower r m n h (EDP.higher i x a b w l) = inr (h, beside-down r i x a b m n w l)
 
+  -- the rows of the next rule
+  pub extending-kept : (entry rows : List ℕ) (n count : ℕ) → Extending g entry n rows → count ≡ rules g → n < count → Kept rows (64 * n) (occurrencesOf g n)
+  extending-kept entry rows n count w e h = w .holds .kept n (omega arith)
+
   pub extending-finish : (entry rows : List ℕ) (n count : ℕ) → Extending g entry n rows → count ≡ rules g → count ≤ n
       → rows ≡ over (rowsOf g (edpPaths g (idsOf g) (numbers g))) entry
   unfolding edpPaths
@@ -218,3 +205,25 @@ module _ (g : List ℕ) (good : readTable g ≡ Good) where
       (λ r a b l d. ⊎-elim (λ p. inl p) (λ p. inr (omega arith, p .1)) d)) entry (edpPaths g (idsOf g) (numbers g)) (w .frame)
       (λ r o b l t. path-map (λ c d x. edp-lower r c d l x) (edp-path-exact g good (numbers g) r (counts g good r l) o b .0 t))
       (λ r o b l p. edp-path-exact g good (numbers g) r (counts g good r l) o b .1 p)
+
+-- the arcs by which every rule is extended
+pub arcs-are : (g arcs s : List ℕ) → arcs ≡ orderOf g s → s ≡ numbers g → arcs ≡ orderOf g (numbers g)
+arcs-are g arcs s o q = o ∙ ap (orderOf g) q
+
+-- one rule by the words that it is read from
+module _ (g offsets rows arcs : List ℕ) (r p among : ℕ) (w : RuleOf g offsets r) (e : p ≡ getD offsets r 0) (a : among ≡ occurrencesAt g p)
+    (o : arcs ≡ orderOf g (numbers g)) where
+  pub down-fits : ArcsFit g p among arcs
+  unfolding rightLength
+  down-fits =
+      subst⁻¹ (λ (l : List ℕ). ArcsFit g p among l) o
+      (subst⁻¹ (λ (n : ℕ). ArcsFit g p n (orderOf g (numbers g))) a
+      (subst⁻¹ (λ (q : ℕ). ArcsFit g q (occurrencesAt g q) (orderOf g (numbers g))) (rule-starts g offsets r w p e)
+      (λ i l k t.
+      descent-among g (w .good) r i k (w .inside) l (subst (λ (x : ℕ). T (hasb k (word (orderOf g (numbers g)) x))) (symbol-same g r i) t))))
+
+  pub down-closes : (after : List ℕ) → Closes rows (64 * r) among (SpreadArc g p arcs (lengthAt g p + 1)) after
+      → Closes rows (64 * r) (occurrencesOf g r) (Down g r) after
+  down-closes after u =
+      closes-at g rows after r p among (λ q. SpreadArc g q (orderOf g (numbers g)) (lengthAt g q + 1)) (rule-starts g offsets r w p e) a
+      (subst (λ (l : List ℕ). Closes rows (64 * r) among (SpreadArc g p l (lengthAt g p + 1)) after) o u)

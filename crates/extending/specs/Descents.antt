@@ -8,7 +8,10 @@ use Rattle.basics.specs.Tests.{_and_}
 use Rattle.basics.specs.Lists.{word, tabulate, padded}
 use Rattle.bits.specs.Bit.{collect}
 use Rattle.grammar.specs.Limits.{mostSymbols}
-use Rattle.grammar.specs.Table.{symbols, attributes}
+use Rattle.grammar.specs.Table.{symbols, attributes, lengthAt, ruleAt}
+use Rattle.relations.specs.Computed.{idsOf}
+use Rattle.sets.specs.Computed.{setsOf}
+use Rattle.inducing.specs.Arcs.{SpreadArc}
 
 -- arc 8a + b leads down: b is one of the first count attributes, and its set number, from word p of the set words on, is lower than a's
 unfoldable pub descends : List ℕ → ℕ → ℕ → ℕ → Bool
@@ -18,6 +21,16 @@ descends s p count k = ltb (k % 8) count and ltb (word s (p + k % 8)) (word s (p
 unfoldable pub descentsOf : List ℕ → List ℕ → ℕ → ℕ
 descentsOf g s x = collect (8 * attributes g x) (λ k. descends s (8 * x) (attributes g x) k)
 
--- those of every symbol
+-- those of the first n symbols, and of all
+unfoldable pub orderTo : List ℕ → List ℕ → ℕ → List ℕ
+orderTo g s n = padded mostSymbols (tabulate n (λ x. descentsOf g s x))
+
 unfoldable pub orderOf : List ℕ → List ℕ → List ℕ
-orderOf g s = padded mostSymbols (tabulate (symbols g) (λ x. descentsOf g s x))
+orderOf g s = orderTo g s (symbols g)
+
+-- the set numbers of a table, and the arcs of rule r that lead down in them
+abbrev pub numbers : List ℕ → List ℕ
+numbers g = setsOf g (idsOf g)
+
+abbrev pub Down : List ℕ → ℕ → ℕ → ℕ → Type 0
+Down g r a b = SpreadArc g (ruleAt g r) (orderOf g (numbers g)) (lengthAt g (ruleAt g r) + 1) a b

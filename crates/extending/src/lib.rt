@@ -1,6 +1,7 @@
 // EDP of every rule in lent rows: step 4 of 000, section 7. The arcs from higher sets to lower ones are made once for each symbol and
 // then added at each position where it stands.
 use grammar::Offsets;
+use grammar::ROWS;
 use grammar::SET_WORDS;
 ghost use mathlib.Core.Path.{_≡_};
 ghost use Prim.Native.Nat.{_+_, _*_, _≤_, _<_};
@@ -10,7 +11,10 @@ ghost use Rattle.grammar.specs.declared.Verdict.the-variants as verdict;
 ghost use Rattle.grammar.specs.Limits.{rowWords};
 ghost use Rattle.grammar.specs.Reading.{readTable};
 ghost use Rattle.grammar.specs.Table as table;
-ghost use Rattle.access.specs.Offsets.{offsetsFor};
+ghost use Rattle.access.specs.Offsets.{offsetsFor, RuleOf};
+ghost use Rattle.closing.proofs.ClosedLaws.{Kept};
+ghost use Rattle.inducing.specs.Closes.{Closes};
+ghost use Rattle.inducing.specs.Rules.{occurrencesOf};
 ghost use Rattle.relations.specs.Computed.{idsOf};
 ghost use Rattle.sets.specs.Computed.{setsOf};
 ghost use Rattle.plans.specs.Buffers.{over, rowsOf};
@@ -36,24 +40,45 @@ fn descents(sets: &[u16; SET_WORDS], p: usize, count: usize) -> u64
 {
     let mut arcs = 0;
     for k in 0..8 * count {
-        if descends(sets, p, count, k) {
-            arcs = bits::with(arcs, k);
-        }
+        let down = descends(sets, p, count, k);
+        arcs = bits::put(arcs, k, down);
     }
     arcs
 }
 
-// Those arcs for every symbol.
+// Those of symbol x.
+fn order_of(words: &[u16], sets: &[u16; SET_WORDS], x: usize) -> u64
+    requires { ⌜ readTable (now words) ≡ verdict.Good ⌝ }
+    requires { ⌜ (x < 32) × (x < table.symbols (now words)) ⌝ }
+    ensures { λ r. ⌜ r ≡ spec.descentsOf (now (words .entry)) (now (sets .entry)) x ⌝ }
+{
+    let count = access::attributes(words, x);
+    descents(sets, 8 * x, count)
+}
+
+// Those of every symbol.
 fn order(words: &[u16], sets: &[u16; SET_WORDS]) -> [u64; 32]
     requires { ⌜ readTable (now words) ≡ verdict.Good ⌝ }
     ensures { λ r. ⌜ r ≡ spec.orderOf (now (words .entry)) (now (sets .entry)) ⌝ }
 {
     let mut arcs = [0u64; 32];
-    let symbols = access::word(words, 0);
+    let symbols = access::symbols(words);
     for x in 0..symbols {
-        arcs[x] = descents(sets, 8 * x, access::attributes(words, x));
+        arcs[x] = order_of(words, sets, x);
     }
     arcs
+}
+
+// Adds to the rows of rule r the arcs that lead down at its positions.
+fn extend_rule(words: &[u16], offsets: &Offsets, r: usize, arcs: &[u64; 32], rows: &mut [u64])
+    requires { ⌜ RuleOf (now words) (now offsets) r ⌝ }
+    requires { ⌜ now arcs ≡ spec.orderOf (now words) (spec.numbers (now words)) ⌝ }
+    requires { ⌜ Kept (now rows) (64 * r) (occurrencesOf (now words) r) ⌝ }
+    ensures { λ _. ⌜ Closes (now (rows .entry)) (64 * r) (occurrencesOf (now (words .entry)) r) (spec.Down (now (words .entry)) r) (now (rows .exit)) ⌝ }
+{
+    let p = access::rule_at(offsets, r);
+    let among = access::occurrence_set(words, p);
+    inducing::spread(words, p, rows, ROWS * r, among, arcs);
 }
 
 // Step 4: the rows, which hold the paths of IDP, get those of EDP.
@@ -66,16 +91,8 @@ pub fn extend(words: &[u16], offsets: &Offsets, sets: &[u16; SET_WORDS], rows: &
     ensures { λ _. ⌜ now (rows .exit) ≡ over (rowsOf (now (words .entry)) (edpPaths (now (words .entry)) (idsOf (now (words .entry))) (setsOf (now (words .entry)) (idsOf (now (words .entry)))))) (now (rows .entry)) ⌝ }
 {
     let arcs = order(words, sets);
-    let count = access::word(words, 1);
+    let count = access::rules(words);
     for r in 0..count {
-        let p = inducing::rule_at(offsets, r);
-        inducing::spread(
-            words,
-            p,
-            rows,
-            64 * r,
-            access::occurrence_set(words, p),
-            &arcs,
-        );
+        extend_rule(words, offsets, r, &arcs, rows);
     }
 }

@@ -7,5 +7,9 @@ pub mod SpreadLaws
 pub mod RuleRowLaws
 pub mod HoldsLaws
 pub mod InduceLaws
-pub mod IdsStateLaws
+pub mod ClearLaws
+pub mod NamingLaws
+pub mod GatheringLaws
+pub mod RefreshLaws
+pub mod StaleLaws
 pub mod ExactLaws

@@ -6,16 +6,15 @@ use mathlib.Core.Bool.{Bool}
 use mathlib.Core.List.{List}
 use native.Mathlib.Omega.{arith}
 use lib.Dec.{T, lt→ltb}
-use lib.ListN.{getD, List·getD-append}
+use lib.ListN.{getD}
 use Rattle.bits.specs.Bit.{hasb}
 use Rattle.bits.proofs.CollectLaws.{collect-lt}
 use Rattle.bits.proofs.MemberLaws.{hasb-collect, hasb-below}
-use Rattle.basics.specs.Lists.{tabulate, padded}
-use Rattle.basics.proofs.ListLaws.{length-tabulate, getD-tabulate}
 use Rattle.grammar.specs.declared.Verdict.the-variants.{Good}
 use Rattle.grammar.specs.Table.{
   rules,
   attributes,
+  lengthAt,
   functionsAt,
   functions,
   ruleAt,
@@ -29,25 +28,16 @@ use Rattle.grammar.specs.Table.{
   ruleCounts,
 }
 use Rattle.grammar.specs.Reading.{readTable}
-use Rattle.grammar.specs.WellFormed.{WellFormed, SymbolFormed}
+use Rattle.grammar.specs.WellFormed.{WellFormed}
 use Rattle.grammar.proofs.AcceptedTable.{accepted, defining-occurs}
-use Rattle.grammar.proofs.RuleStarts.{rules-rise, no-longer-table}
 use Rattle.relations.specs.Paper.{DP, Stands}
 use Rattle.relations.proofs.Occurrences.{occurs-below, dp-argument, stands-occurs}
-use Rattle.access.specs.Offsets.{offsetsFor}
+use Rattle.access.specs.Offsets.{RuleOf}
 use Rattle.access.specs.ByPlace.{occurrencesAt}
-use Rattle.access.proofs.Same.{symbol-same, occurrences-same}
+use Rattle.access.proofs.Accessors.{symbol-at-rule, rule-starts, rule-near, rule-shaped}
+use Rattle.access.proofs.Same.{occurrences-same}
 use Rattle.inducing.specs.Arcs.{argumentsAt, RuleArc, Ruled, FunctionsFit}
 use Rattle.inducing.specs.Rules.{occurrencesOf}
-
--- the offsets name each rule's first word
-pub offset-is : (g offsets : List ℕ) (r p : ℕ) → offsets ≡ offsetsFor g Good → r < rules g → p ≡ getD offsets r 0 → p ≡ ruleAt g r
-unfolding offsetsFor padded
-offset-is g offsets r p e h q =
-    q
-    ∙ (ap (λ (s : List ℕ). getD s r 0) e
-    ∙ (List·getD-append (tabulate (rules g) (λ r. ruleAt g r)) _ 0 r (omega (arith, length-tabulate (rules g) (λ r. ruleAt g r)))
-    ∙ getD-tabulate (rules g) (λ r. ruleAt g r) 0 r h))
 
 -- the set of a rule's occurrences
 pub among-lt : (g : List ℕ) (r : ℕ) → occurrencesOf g r < 2 ^ 64
@@ -74,28 +64,6 @@ module _ (g : List ℕ) (good : readTable g ≡ Good) where
       (ap (λ (s : ℕ). hasb o s) (occurrences-same g r)
       ∙ hasb-collect 64 o (λ o. occurrence g r o) (occurs-below g formed r o (counts r h) t)) t
 
-  near : (r : ℕ) → r < rules g → ruleAt g r < 65536
-  near r h = omega (arith, rules-rise g r (rules g) (omega arith), formed .ends, no-longer-table g good)
-
-  -- what the steps ask of a rule
-  rule-ruled : (r : ℕ) → r < rules g → Ruled g (ruleAt g r)
-  unfolding rightLength functions
-  rule-ruled r h =
-      let w = formed .rule r h in
-      record {
-        near = near r h;
-        shaped = record {
-          short = w .lengthFits;
-          formed = λ i l.
-              subst⁻¹ (λ (x : ℕ). SymbolFormed g x) (symbol-same g r i) (formed .symbol (symbolOf g r i) (w .symbolsFit i l));
-        };
-        few = w .functionsFit;
-        symbolFits = λ i l. omega (arith, symbol-same g r i, w .symbolsFit i l, formed .symbolsFit);
-      }
-
-  pub ruled : (r p : ℕ) → r < rules g → p ≡ ruleAt g r → Ruled g p
-  ruled r p h e = subst⁻¹ (λ (q : ℕ). Ruled g q) e (rule-ruled r h)
-
   -- its functions speak of its occurrences
   rule-functions : (r : ℕ) → r < rules g → FunctionsFit g (ruleAt g r) (occurrencesOf g r)
   unfolding functions target argument arguments operation argumentsAt
@@ -105,10 +73,6 @@ module _ (g : List ℕ) (good : readTable g ≡ Good) where
         targetFits = occurs-among r (target g r k) h (defining-occurs g r (target g r k) (w .targetDefining));
         argumentFits = λ j m. occurs-among r (argument g r k j) h (w .argumentOccurs j m);
       }
-
-  pub functions-fit : (r p among : ℕ) → r < rules g → p ≡ ruleAt g r → among ≡ occurrencesAt g p → FunctionsFit g p among
-  functions-fit r p among h e a =
-      subst⁻¹ (λ (s : ℕ). FunctionsFit g p s) a (subst⁻¹ (λ (q : ℕ). FunctionsFit g q (occurrencesAt g q)) e (rule-functions r h))
 
   -- DP of a rule is the arcs of its functions
   pub dp-arc : (r a b : ℕ) → DP g r a b → RuleArc g (ruleAt g r) (functionsAt g (ruleAt g r)) a b
@@ -143,6 +107,30 @@ module _ (g : List ℕ) (good : readTable g ≡ Good) where
   attribute-among r i a h l m =
       occurs-among r (8 * i + a) h (stands-occurs g formed r i (symbolOf g r i) a (standing r i h l) m)
 
-  -- how many rules there are
-  pub few-rules : (n : ℕ) → n ≡ rules g → n ≤ 64
-  few-rules n e = omega (arith, formed .rulesFit)
+-- what the steps ask of the rule that the offsets lead to
+module _ (g offsets : List ℕ) (r : ℕ) (w : RuleOf g offsets r) (p : ℕ) (e : p ≡ getD offsets r 0) where
+  pub rule-ruled : Ruled g p
+  unfolding rightLength functions
+  rule-ruled =
+      let f : WellFormed g = accepted g (w .good) in
+      let q : p ≡ ruleAt g r = rule-starts g offsets r w p e in
+      record {
+        near = rule-near g offsets r w p e;
+        shaped = rule-shaped g offsets r w p e;
+        few = omega (arith, f .rule r (w .inside) .functionsFit, ap (functionsAt g) q);
+        symbolFits = λ i l.
+            omega (
+              arith,
+              symbol-at-rule g r p q i,
+              f .rule r (w .inside) .symbolsFit i (omega (arith, ap (lengthAt g) q)),
+              f .symbolsFit,
+            );
+      }
+
+  pub rule-few : functionsAt g p ≤ 64
+  rule-few = rule-ruled .few
+
+  pub rule-functions-fit : (among : ℕ) → among ≡ occurrencesAt g p → FunctionsFit g p among
+  rule-functions-fit among a =
+      subst⁻¹ (λ (s : ℕ). FunctionsFit g p s) a
+      (subst⁻¹ (λ (q : ℕ). FunctionsFit g q (occurrencesAt g q)) (rule-starts g offsets r w p e) (rule-functions g (w .good) r (w .inside)))

@@ -8,22 +8,23 @@ ghost use lib.ListN.{length, getD};
 ghost use Rattle.closing.proofs.ClosedLaws.{Kept};
 ghost use Rattle.inducing.specs.Cycles.{cycleIn};
 ghost use Rattle.inducing.specs.Closes.{Between, Inside, Closes, ArcAt, Ends};
-ghost use mathlib.Core.Bool.{Bool};
-ghost use lib.Dec.{eqb};
 ghost use Prim.Native.Nat.{ℕ};
-ghost use Rattle.basics.specs.Tests.{all};
+ghost use Rattle.bits.specs.Bit.{remove, union};
 ghost use Rattle.basics.specs.Lists.{word};
 ghost use Rattle.grammar.specs.declared.Verdict.the-variants as verdict;
 ghost use Rattle.grammar.specs.Reading.{readTable};
 ghost use Rattle.grammar.specs.Table as table;
-ghost use Rattle.access.specs.Offsets.{offsetsFor};
+ghost use Rattle.access.specs.ByPlace.{symbolFrom};
+ghost use Rattle.access.specs.Offsets.{offsetsFor, RuleOf};
 ghost use Rattle.basics.specs.Lists.{padded};
 ghost use Rattle.grammar.specs.Limits.{rowWords};
+ghost use Rattle.relations.specs.Paper.{DP};
 ghost use Rattle.relations.specs.Computed.{idsOf};
 ghost use Rattle.plans.specs.Buffers.{over, rowsOf};
 ghost use Rattle.plans.specs.Answer.{idpPaths};
 ghost use Rattle.inducing.specs.Rules as rules;
 ghost use Rattle.inducing.specs.Arcs as said;
+ghost use Rattle.inducing.specs.Stale as state;
 
 // Where a cycle lies: the rule and the occurrence.
 pub enum Cycle {
@@ -126,37 +127,52 @@ fn fill_rule(words: &[u16], p: usize, rows: &mut [u64], base: usize, among: u64)
     }
 }
 
-// A word as a place in the table.
-fn place(p: u16) -> usize
-    ensures { λ r. ⌜ r ≡ p ⌝ }
+// DP of rule r, closed.
+fn fill_at(words: &[u16], offsets: &Offsets, r: usize, rows: &mut [u64])
+    requires { ⌜ RuleOf (now words) (now offsets) r ⌝ }
+    requires { ⌜ Kept (now rows) (64 * r) (rules.occurrencesOf (now words) r) ⌝ }
+    ensures { λ _. ⌜ Closes (now (rows .entry)) (64 * r) (rules.occurrencesOf (now (words .entry)) r) (DP (now (words .entry)) r) (now (rows .exit)) ⌝ }
 {
-    p as usize
+    let p = access::rule_at(offsets, r);
+    let among = access::occurrence_set(words, p);
+    fill_rule(words, p, rows, ROWS * r, among);
 }
 
-// The word at which rule r starts.
-pub fn rule_at(offsets: &Offsets, r: usize) -> usize
-    requires { ⌜ r < 64 ⌝ }
-    ensures { λ p. ⌜ p ≡ getD (now (offsets .entry)) r 0 ⌝ }
-{
-    place(offsets[r])
-}
-
-// Step 1: DP of every rule, closed.
+// Step 1: DP of every rule.
 fn fill(words: &[u16], offsets: &Offsets, rows: &mut [u64])
     requires { ⌜ readTable (now words) ≡ verdict.Good ⌝ }
     requires { ⌜ now offsets ≡ offsetsFor (now words) verdict.Good ⌝ }
     requires { ⌜ 64 * table.rules (now words) ≤ length (now rows) ⌝ }
     requires { ⌜ ((j : ℕ) → j < 64 * table.rules (now words) → word (now rows) j ≡ 0) ⌝ }
-    ensures { λ _. ⌜ rules.Induced (now (words .entry)) (now (rows .exit)) × rules.Frame (now (words .entry)) (now (rows .entry)) (now (rows .exit)) ⌝ }
+    ensures { λ _. ⌜ rules.Filled (now (words .entry)) (now (rows .entry)) (now (rows .exit)) ⌝ }
 {
-    let count = access::word(words, 1);
+    let count = access::rules(words);
     for r in 0..count {
-        let p = rule_at(offsets, r);
-        fill_rule(words, p, rows, 64 * r, access::occurrence_set(words, p));
+        fill_at(words, offsets, r, rows);
     }
 }
 
-// Adds at each position of the rule at word p the arcs that its symbol has.
+// Adds at position i of the rule at word p the arcs that the symbol there has.
+fn spread_at(
+    words: &[u16],
+    p: usize,
+    i: usize,
+    rows: &mut [u64],
+    base: usize,
+    among: u64,
+    arcs: &[u64; 32],
+)
+    requires { ⌜ (base + 64 ≤ length (now rows)) × (i ≤ table.lengthAt (now words) p) ⌝ }
+    requires { ⌜ said.Ruled (now words) p ⌝ }
+    requires { ⌜ said.ArcsFit (now words) p among (now arcs) ⌝ }
+    requires { ⌜ Kept (now rows) base among ⌝ }
+    ensures { λ _. ⌜ Closes (now (rows .entry)) base among (ArcAt i (word (now (arcs .entry)) (symbolFrom (now (words .entry)) p i))) (now (rows .exit)) ⌝ }
+{
+    let x = access::symbol_of(words, p, i);
+    induce_at(rows, base, among, i, arcs[x]);
+}
+
+// The same at each of its positions.
 pub fn spread(words: &[u16], p: usize, rows: &mut [u64], base: usize, among: u64, arcs: &[u64; 32])
     requires { ⌜ base + 64 ≤ length (now rows) ⌝ }
     requires { ⌜ said.Ruled (now words) p ⌝ }
@@ -166,56 +182,132 @@ pub fn spread(words: &[u16], p: usize, rows: &mut [u64], base: usize, among: u64
 {
     let n = access::right_length(words, p);
     for i in 0..n + 1 {
-        induce_at(rows, base, among, i, arcs[access::symbol_of(words, p, i)]);
+        spread_at(words, p, i, rows, base, among, arcs);
     }
 }
 
-// The arcs at each position of the rule at word p, put to those of its symbol.
-fn gather(words: &[u16], p: usize, rows: &[u64], base: usize, ids: &mut [u64; 32])
-    requires { ⌜ (base + 64 ≤ length (now rows)) × (length (now ids) ≡ 32) ⌝ }
-    requires { ⌜ said.Ruled (now words) p ⌝ }
-    ensures { λ _. ⌜ said.Gathered (now (words .entry)) p (now (rows .entry)) base (table.lengthAt (now (words .entry)) p + 1) (now (ids .entry)) (now (ids .exit)) ⌝ }
+// Puts rule r to the rules that name each of its symbols.
+fn name_rule(words: &[u16], offsets: &Offsets, r: usize, naming: &mut [u64; 32])
+    requires { ⌜ RuleOf (now words) (now offsets) r ⌝ }
+    requires { ⌜ length (now naming) ≡ 32 ⌝ }
+    ensures { λ _. ⌜ state.NamedAt (now (words .entry)) r (table.rightLength (now (words .entry)) r + 1) (now (naming .entry)) (now (naming .exit)) ⌝ }
 {
+    let p = access::rule_at(offsets, r);
     let n = access::right_length(words, p);
     for i in 0..n + 1 {
         let x = access::symbol_of(words, p, i);
-        let arcs = closing::arcs_at(rows, base, i, access::attributes(words, x));
-        ids[x] = bits::union(ids[x], arcs);
+        naming[x] = bits::with(naming[x], r);
     }
 }
 
-// One round: every rule gets the arcs that its symbols have, and hands on those that its paths induce.
-fn round(words: &[u16], offsets: &Offsets, rows: &mut [u64], ids: &mut [u64; 32])
+// For each symbol the rules that name it.
+fn name_rules(words: &[u16], offsets: &Offsets) -> [u64; 32]
     requires { ⌜ readTable (now words) ≡ verdict.Good ⌝ }
     requires { ⌜ now offsets ≡ offsetsFor (now words) verdict.Good ⌝ }
-    requires { ⌜ rules.Standing (now words) (now rows) (now rows) (now ids) ⌝ }
-    ensures { λ _. ⌜ rules.Turned (now (words .entry)) (now (rows .entry)) (now (ids .entry)) (table.rules (now (words .entry))) (now (rows .exit)) (now (ids .exit)) ⌝ }
+    ensures { λ r. ⌜ state.Naming (now (words .entry)) (table.rules (now (words .entry))) r ⌝ }
 {
-    let count = access::word(words, 1);
+    let count = access::rules(words);
+    let mut naming = [0u64; 32];
     for r in 0..count {
-        let p = rule_at(offsets, r);
-        spread(
-            words,
-            p,
-            rows,
-            64 * r,
-            access::occurrence_set(words, p),
-            ids,
-        );
-        gather(words, p, rows, 64 * r, ids);
+        name_rule(words, offsets, r, &mut naming);
     }
+    naming
 }
 
-// Whether two states have the same arcs.
-fn same(a: &[u64; 32], b: &[u64; 32]) -> bool
-    ensures { λ r. ⌜ r ≡ all 32 (λ x. eqb (word (now (a .entry)) x) (word (now (b .entry)) x)) ⌝ }
+// Puts arcs to those of symbol x, and answers the rules that this touches: those that name x where an arc is new, else none.
+fn add_arcs(ids: &mut [u64; 32], x: usize, arcs: u64, names: u64) -> u64
+    requires { ⌜ (x < 32) × (length (now ids) ≡ 32) ⌝ }
+    ensures { λ touched. ⌜ state.Added x arcs names (now (ids .entry)) (now (ids .exit)) touched ⌝ }
 {
-    for x in 0..32usize {
-        if a[x] != b[x] {
-            return false;
-        }
+    let new = bits::minus(arcs, ids[x]);
+    if new == 0 {
+        return 0;
     }
-    true
+    ids[x] = bits::union(ids[x], new);
+    names
+}
+
+// Puts the arcs at position i of the rule at word p to those of the symbol there, and answers the rules that this touches.
+fn gather_at(
+    words: &[u16],
+    p: usize,
+    i: usize,
+    rows: &[u64],
+    base: usize,
+    naming: &[u64; 32],
+    ids: &mut [u64; 32],
+) -> u64
+    requires { ⌜ (base + 64 ≤ length (now rows)) × (length (now ids) ≡ 32) ⌝ }
+    requires { ⌜ said.Ruled (now words) p ⌝ }
+    requires { ⌜ i ≤ table.lengthAt (now words) p ⌝ }
+    ensures { λ touched. ⌜ state.AddedAt (now (words .entry)) p i (now (rows .entry)) base (now (naming .entry)) (now (ids .entry)) (now (ids .exit)) touched ⌝ }
+{
+    let x = access::symbol_of(words, p, i);
+    let arcs = closing::arcs_at(rows, base, i, access::attributes(words, x));
+    add_arcs(ids, x, arcs, naming[x])
+}
+
+// The same at each of its positions.
+fn gather(
+    words: &[u16],
+    p: usize,
+    rows: &[u64],
+    base: usize,
+    naming: &[u64; 32],
+    ids: &mut [u64; 32],
+) -> u64
+    requires { ⌜ (base + 64 ≤ length (now rows)) × (length (now ids) ≡ 32) ⌝ }
+    requires { ⌜ said.Ruled (now words) p ⌝ }
+    ensures { λ touched. ⌜ state.Gathering (now (words .entry)) p (now (rows .entry)) base (table.lengthAt (now (words .entry)) p + 1) (now (naming .entry)) (now (ids .entry)) (now (ids .exit)) touched ⌝ }
+{
+    let n = access::right_length(words, p);
+    let mut touched = 0;
+    for i in 0..n + 1 {
+        let more = gather_at(words, p, i, rows, base, naming, ids);
+        touched = bits::union(touched, more);
+    }
+    touched
+}
+
+// Rule r gets the arcs that its symbols have, and hands on those that its paths induce. The answer is the rules that are touched by it.
+fn refresh(
+    words: &[u16],
+    offsets: &Offsets,
+    r: usize,
+    naming: &[u64; 32],
+    rows: &mut [u64],
+    ids: &mut [u64; 32],
+) -> u64
+    requires { ⌜ RuleOf (now words) (now offsets) r ⌝ }
+    requires { ⌜ state.Naming (now words) (table.rules (now words)) (now naming) ⌝ }
+    requires { ⌜ rules.Standing (now words) (now rows) (now ids) ⌝ }
+    ensures { λ touched. ⌜ state.Refreshed (now (words .entry)) (now (naming .entry)) r (now (rows .entry)) (now (ids .entry)) (now (rows .exit)) (now (ids .exit)) touched ⌝ }
+{
+    let p = access::rule_at(offsets, r);
+    let among = access::occurrence_set(words, p);
+    spread(words, p, rows, ROWS * r, among, ids);
+    gather(words, p, rows, ROWS * r, naming, ids)
+}
+
+// The stale rule to take up next: the lowest from `from` on, else the lowest of all. So the rules are gone through upward, over and over.
+fn choose(stale: u64, from: usize) -> usize
+    requires { ⌜ (0 < stale) × (from ≤ 64) ⌝ }
+    ensures { λ r. ⌜ state.Chosen stale r ⌝ }
+{
+    let ahead = bits::minus(stale, bits::below(from));
+    if ahead == 0 {
+        return bits::first(stale);
+    }
+    bits::first(ahead)
+}
+
+// The stale rules once r was taken up: those that were but r, and those that it touched.
+fn still_stale(stale: u64, r: usize, touched: u64) -> u64
+    requires { ⌜ r < 64 ⌝ }
+    ensures { λ next. ⌜ next ≡ union (remove r stale) touched ⌝ }
+{
+    let rest = bits::without(stale, r);
+    bits::union(rest, touched)
 }
 
 // No path anywhere.
@@ -228,7 +320,27 @@ fn clear(rows: &mut [u64], count: usize)
     }
 }
 
-// Steps 1 and 2: the rows get the paths of IDP, and the answer is IDS of every symbol. A round that adds no arc is the last.
+// Step 2: as long as a rule is stale it is taken up, and the rules that it touches are stale from then on. No arc is taken back, so this ends.
+fn settle(words: &[u16], offsets: &Offsets, rows: &mut [u64]) -> [u64; 32]
+    requires { ⌜ readTable (now words) ≡ verdict.Good ⌝ }
+    requires { ⌜ now offsets ≡ offsetsFor (now words) verdict.Good ⌝ }
+    requires { ⌜ rules.Induced (now words) (now rows) ⌝ }
+    ensures { λ ids. ⌜ state.Stale (now (words .entry)) (now (rows .entry)) 0 (now (rows .exit)) ids ⌝ }
+{
+    let naming = name_rules(words, offsets);
+    let mut ids = [0u64; 32];
+    let mut stale = bits::below(access::rules(words));
+    let mut from = 0;
+    while stale != 0 {
+        let r = choose(stale, from);
+        let touched = refresh(words, offsets, r, &naming, rows, &mut ids);
+        stale = still_stale(stale, r, touched);
+        from = r + 1;
+    }
+    ids
+}
+
+// Steps 1 and 2: the rows get the paths of IDP, and the answer is IDS of every symbol.
 pub fn induce(words: &[u16], offsets: &Offsets, rows: &mut [u64]) -> [u64; 32]
     requires { ⌜ readTable (now words) ≡ verdict.Good ⌝ }
     requires { ⌜ now offsets ≡ offsetsFor (now words) verdict.Good ⌝ }
@@ -236,14 +348,7 @@ pub fn induce(words: &[u16], offsets: &Offsets, rows: &mut [u64]) -> [u64; 32]
     ensures { λ r. ⌜ r ≡ padded 32 (idsOf (now (words .entry))) ⌝ }
     ensures { λ _. ⌜ now (rows .exit) ≡ over (rowsOf (now (words .entry)) (idpPaths (now (words .entry)) (idsOf (now (words .entry))))) (now (rows .entry)) ⌝ }
 {
-    clear(rows, ROWS * access::word(words, 1));
+    clear(rows, ROWS * access::rules(words));
     fill(words, offsets, rows);
-    let mut ids = [0u64; 32];
-    loop {
-        let before = ids;
-        round(words, offsets, rows, &mut ids);
-        if same(&before, &ids) {
-            return ids;
-        }
-    }
+    settle(words, offsets, rows)
 }

@@ -20,7 +20,7 @@ use Rattle.sequences.proofs.PlannedSequences.{planned-short}
 use Rattle.plans.specs.Buffers.{over, sequenceWords, planOf}
 use Rattle.plans.specs.Answer.{edpPaths, sequencesOf, acceptedPlan}
 use Rattle.plans.proofs.Answers.{no-idp-cycle, no-edp-cycle}
-use Rattle.inducing.proofs.RuleRowLaws.{offset-is}
+use Rattle.access.proofs.Accessors.{offset-is}
 use Rattle.plans.proofs.RowWords.{over-size, over-row}
 use Rattle.sequencing.specs.Given.{RuleGiven as Given, withBlock as written}
 use Rattle.planner.specs.Stages.{Ordered, sets}

@@ -36,7 +36,7 @@ fn write_plan(words: &[u16], offsets: &Offsets, sets: &[u16; 256], rows: &[u64],
     sequencing::write(plan, 0, sets);
     let count = access::word(words, 1);
     for r in 0..count {
-        sequencing::sequence(words, inducing::rule_at(offsets, r), r, sets, rows, plan);
+        sequencing::sequence(words, access::rule_at(offsets, r), r, sets, rows, plan);
     }
 }
 

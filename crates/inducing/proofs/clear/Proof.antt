@@ -2,7 +2,7 @@
 use Prim.Native.Nat.{_≤_, _-_}
 use borrow.Author.Needs.{needs}
 use Rattle.inducing.specs.Rules.{Cleared}
-use Rattle.inducing.proofs.IdsStateLaws.{clear-start, clear-turn, clear-finish}
+use Rattle.inducing.proofs.ClearLaws.{clear-start, clear-turn, clear-finish}
 use Rattle.inducing.proofs.clear.Statement.{statement}
 use Rattle.inducing.proofs.clear.Tie as tie
 

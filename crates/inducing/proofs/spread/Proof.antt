@@ -3,7 +3,7 @@ use Prim.Native.Nat.{_+_, _≤_, _-_}
 use borrow.Author.Needs.{needs}
 use Rattle.inducing.specs.Arcs.{SpreadArc}
 use Rattle.inducing.specs.Closes.{Closes}
-use Rattle.inducing.proofs.SpreadLaws.{position-small, symbol-small, symbol-ends, spread-start, spread-turn, spread-finish}
+use Rattle.inducing.proofs.SpreadLaws.{position-inside, spread-start, spread-turn, spread-finish}
 use Rattle.inducing.proofs.spread.Statement.{statement}
 use Rattle.inducing.proofs.spread.Tie as tie
 
@@ -22,17 +22,8 @@ add-i-end c = search needs
 loop-holds : tie.Need-loop-holds Inv-loop μ-loop
 loop-holds c = (search needs, search spread-start)
 
-symbol-of-requires : tie.Need-symbol-of-requires Inv-loop μ-loop
-symbol-of-requires c κs = search needs
-
-mul-induce-at : tie.Need-mul-induce-at Inv-loop μ-loop
-mul-induce-at c = search needs
-
-element-copy-out-induce-at : tie.Need-element-copy-out-induce-at Inv-loop μ-loop
-element-copy-out-induce-at c = search (symbol-small, needs)
-
-induce-at-requires : tie.Need-induce-at-requires Inv-loop μ-loop
-induce-at-requires c κs = ((search needs, search (position-small, needs)), (search needs, search (symbol-ends, needs)))
+spread-at-requires : tie.Need-spread-at-requires Inv-loop μ-loop
+spread-at-requires c κs = search (position-inside, needs)
 
 add-i : tie.Need-add-i Inv-loop μ-loop
 add-i c = search needs
@@ -41,18 +32,7 @@ loop-less : tie.Need-loop-less Inv-loop μ-loop
 loop-less c = search needs
 
 loop-again : tie.Need-loop-again Inv-loop μ-loop
-loop-again c = (
-  search needs,
-  search (
-    spread-turn,
-    needs,
-    (c .before .before .before .before .before .before .before .loop .inv .1),
-    (c .before .before .before .before .before .before .before .before .before .before .before .pre .1 .1 .0),
-    (c .before .before .before .before .before .before .before .before .right-length .ensures .0),
-    (c .before .before .before .before .symbol-of .ensures .0),
-    (c .before .before .induce-at .ensures),
-  ),
-)
+loop-again c = (search needs, search (spread-turn, needs))
 
 same-length : tie.Need-same-length Inv-loop μ-loop
 same-length c = search needs
@@ -69,10 +49,7 @@ spread-spec =
     right-length-requires
     add-i-end
     loop-holds
-    symbol-of-requires
-    mul-induce-at
-    element-copy-out-induce-at
-    induce-at-requires
+    spread-at-requires
     add-i
     loop-less
     loop-again
