@@ -12,7 +12,7 @@ use lib.Seq.{getD-set-same, set-set, take-set-lt, getD-take}
 use Rattle.basics.specs.Lists.{word}
 use Rattle.grammar.specs.Table.{rules, functionOf, defining}
 use Rattle.grammar.proofs.AcceptedTable.{defining-occurs}
-use Rattle.sequences.specs.Actions.{Action, compute, decode, isAction}
+use Rattle.sequences.specs.Actions.{Action, decode, isAction}
 use Rattle.sequences.proofs.ActionNumbers.{decode-compute}
 use Rattle.sequences.proofs.ActionLaws.{action-belongs, belongs-compute}
 use Rattle.trees.specs.Tree.{nodes, ruleOf, appliesRule, cell}

@@ -8,14 +8,12 @@ use lib.IntN.{ℤ}
 use lib.ListN.{length, take, set, replicate, length-replicate}
 use lib.Seq.{set-getD}
 use Rattle.basics.specs.Lists.{word}
-use Rattle.sequences.specs.Actions.{compute, leave}
 use Rattle.trees.specs.Tree.{mostNodes, nodes, ruleOf, child, cell}
 use Rattle.evaluating.specs.FunctionPlaces.{Valued}
 use Rattle.runs.specs.declared.Ran as R
 use Rattle.grammar.specs.Limits.{mostOccurrences, mostRules, ruleWords, planWords}
 use Rattle.plans.specs.Sequences.{sequenceAt, actionAt}
 use Rattle.runs.specs.Automaton.{started, after}
-use Rattle.runs.specs.Totals.{total}
 use Rattle.runs.specs.Run.{ran}
 use Rattle.runs.proofs.Steps.{all-zero}
 use Rattle.executing.specs.Runnable.{Runnable}

@@ -18,7 +18,7 @@ use Rattle.trees.specs.Tree.{nodes, ruleOf, child, cell}
 use Rattle.evaluating.proofs.PlaceLaws.{by-number}
 use Rattle.runs.specs.declared.Ran as R
 use Rattle.plans.specs.Sequences.{sequenceAt, actionAt}
-use Rattle.runs.specs.Automaton.{Machine, functionFor, computed, act, step, after}
+use Rattle.runs.specs.Automaton.{Machine, functionFor, computed, act, after}
 use Rattle.runs.specs.Totals.{total}
 use Rattle.runs.specs.Run.{ran}
 use Rattle.runs.specs.Computing.{machineAt}
