@@ -1,11 +1,11 @@
 -- What planning answers and leaves at each stage, by what the searches found.
 -- Assumes nothing.
-use Prim.Native.Nat.{ℕ, _+_, _*_, _≤_}
+use Prim.Native.Nat.{ℕ, _≤_}
 use mathlib.Core.Path.{_≡_, refl, sym, _∙_, ap, ap₂, subst⁻¹}
 use mathlib.Core.Bool.{Bool, true, false, cond}
 use mathlib.Core.List.{List}
 use native.Mathlib.Omega.{arith}
-use lib.ListN.{length, getD}
+use lib.ListN.{length}
 use Rattle.basics.specs.Tests.{some}
 use Rattle.basics.specs.Lists.{padded}
 use Rattle.basics.proofs.TestLaws.{chosen, passed-over, true-T, false-T}
@@ -13,7 +13,7 @@ use Rattle.refusals.specs.declared.Refusal.{Refusal}
 use Rattle.refusals.specs.declared.Refusal.the-variants.{CircularIdp, CircularEdp}
 use Rattle.grammar.specs.declared.Verdict.{Verdict}
 use Rattle.grammar.specs.declared.Verdict.the-variants.{Good, Refused}
-use Rattle.grammar.specs.Limits.{planWords}
+use Rattle.grammar.specs.Limits.{mostRules, planWords, rowWords}
 use Rattle.grammar.specs.Table.{rules}
 use Rattle.grammar.specs.Reading.{readTable}
 use Rattle.grammar.specs.Verdicts.{_then_}
@@ -71,7 +71,7 @@ came-by : (g : List ℕ) (o p : Outcome) (rows₀ plan₀ : List ℕ) (answer : 
 came-by g o p rows₀ plan₀ answer rows plan e w = subst⁻¹ (λ (q : Outcome). Came g q rows₀ plan₀ answer rows plan) e w
 
 -- what the search over all rules found
-searched : (g rows : List ℕ) (n : ℕ) (k found : Cycle) → n ≡ getD g 1 0 → k ≡ cycleIn rows n → k ≡ found → cycleIn rows (rules g) ≡ found
+searched : (g rows : List ℕ) (n : ℕ) (k found : Cycle) → n ≡ rules g → k ≡ cycleIn rows n → k ≡ found → cycleIn rows (rules g) ≡ found
 searched g rows n k found m h e = ap (cycleIn rows) (sym m) ∙ (sym h ∙ e)
 
 -- what is written twice
@@ -85,7 +85,7 @@ over-new g rows₀ rows next p q is e =
     e ∙ (ap (over (rowsOf g q)) is ∙ over-over (rowsOf g q) (rowsOf g p) rows₀ (omega (arith, rows-length g p, rows-length g q)))
 
 -- a search has its room: the rules are few, and the rows keep their length
-pub few-rules : (g offsets : List ℕ) (rowsLength planLength n : ℕ) → Read g offsets rowsLength planLength → n ≡ getD g 1 0 → n ≤ 64
+pub few-rules : (g offsets : List ℕ) (rowsLength planLength n : ℕ) → Read g offsets rowsLength planLength → n ≡ rules g → n ≤ mostRules
 few-rules g offsets rowsLength planLength n w m = omega (arith, formed g (w .good) .rulesFit)
 
 pub rows-kept : (g offsets rows₀ rows : List ℕ) (planLength : ℕ) (p : ℕ → ℕ → ℕ → Bool) → Read g offsets (length rows₀) planLength
@@ -93,13 +93,13 @@ pub rows-kept : (g offsets rows₀ rows : List ℕ) (planLength : ℕ) (p : ℕ 
 rows-kept g offsets rows₀ rows planLength p w is =
     ap length is ∙ over-length g p rows₀ (rows-room g (length rows₀) planLength (w .space))
 
-pub search-room : (g offsets rows₀ rows : List ℕ) (planLength n : ℕ) (p : ℕ → ℕ → ℕ → Bool) → Read g offsets (length rows₀) planLength → n ≡ getD g 1 0
-    → rows ≡ over (rowsOf g p) rows₀ → 64 * n ≤ length rows
+pub search-room : (g offsets rows₀ rows : List ℕ) (planLength n : ℕ) (p : ℕ → ℕ → ℕ → Bool) → Read g offsets (length rows₀) planLength → n ≡ rules g
+    → rows ≡ over (rowsOf g p) rows₀ → rowWords n ≤ length rows
 search-room g offsets rows₀ rows planLength n p w m is =
     omega (arith, rows-kept g offsets rows₀ rows planLength p w is, rows-room g (length rows₀) planLength (w .space))
 
 -- 9
-pub nine-came : (g rows₀ plan₀ rows : List ℕ) (n r o : ℕ) (k : Cycle) → rows ≡ over (rowsOf g (idps g)) rows₀ → n ≡ getD g 1 0 → k ≡ cycleIn rows n
+pub nine-came : (g rows₀ plan₀ rows : List ℕ) (n r o : ℕ) (k : Cycle) → rows ≡ over (rowsOf g (idps g)) rows₀ → n ≡ rules g → k ≡ cycleIn rows n
     → k ≡ At r o → Came g (afterEight g) rows₀ plan₀ (P.the-variants.Refused (CircularIdp r o)) rows plan₀
 unfolding afterRoom answerOf rowsAfter planAfter
 nine-came g rows₀ plan₀ rows n r o k is m h e =
@@ -110,12 +110,12 @@ nine-came g rows₀ plan₀ rows n r o k is m h e =
     (record { answers = ap (λ (x : Refusal). P.the-variants.Refused x) q; rowsAre = is; planIs = refl })
 
 -- past 9
-past-nine : (g rows₀ rows : List ℕ) (n : ℕ) (k : Cycle) → rows ≡ over (rowsOf g (idps g)) rows₀ → n ≡ getD g 1 0 → k ≡ cycleIn rows n → k ≡ Nothing
+past-nine : (g rows₀ rows : List ℕ) (n : ℕ) (k : Cycle) → rows ≡ over (rowsOf g (idps g)) rows₀ → n ≡ rules g → k ≡ cycleIn rows n → k ≡ Nothing
     → circular g (idps g) ≡ false
 past-nine g rows₀ rows n k is m h e = cycle-nothing g (idps g) rows₀ rows is (searched g rows n k Nothing m h e)
 
 pub noncircular : (g offsets ids rows₀ rows : List ℕ) (planLength n : ℕ) (k : Cycle) → Read g offsets (length rows₀) planLength
-    → ids ≡ padded 32 (idsOf g) → rows ≡ over (rowsOf g (idps g)) rows₀ → n ≡ getD g 1 0 → k ≡ cycleIn rows n → k ≡ Nothing
+    → ids ≡ padded 32 (idsOf g) → rows ≡ over (rowsOf g (idps g)) rows₀ → n ≡ rules g → k ≡ cycleIn rows n → k ≡ Nothing
     → Noncircular g offsets ids rows planLength
 noncircular g offsets ids rows₀ rows planLength n k w i is m h e =
     record {
@@ -142,7 +142,7 @@ edp-left g rows =
     either false n o e = e
 
 pub noncircular-came : (g rows₀ plan₀ rows : List ℕ) (answer : P.Planned) (next plan : List ℕ) (n : ℕ) (k : Cycle)
-    → rows ≡ over (rowsOf g (idps g)) rows₀ → n ≡ getD g 1 0 → k ≡ cycleIn rows n → k ≡ Nothing → Came g (afterNine g) rows plan₀ answer next plan
+    → rows ≡ over (rowsOf g (idps g)) rows₀ → n ≡ rules g → k ≡ cycleIn rows n → k ≡ Nothing → Came g (afterNine g) rows plan₀ answer next plan
     → Came g (afterEight g) rows₀ plan₀ answer next plan
 noncircular-came g rows₀ plan₀ rows answer next plan n k is m h e w =
     came-by g (afterEight g) (afterNine g) rows₀ plan₀ answer next plan (after-nine g (past-nine g rows₀ rows n k is m h e))
@@ -159,7 +159,7 @@ sets-are g offsets ids s rows planLength w f =
     f ∙ (ap (setsOf g) (w .idsAre) ∙ sets-same g (padded 32 (idsOf g)) (idsOf g) (λ x. padded-word 32 (idsOf g) x))
 
 -- 10
-pub ten-came : (g rows₀ plan₀ next : List ℕ) (n r o : ℕ) (l : Cycle) → next ≡ over (rowsOf g (edps g)) rows₀ → n ≡ getD g 1 0 → l ≡ cycleIn next n
+pub ten-came : (g rows₀ plan₀ next : List ℕ) (n r o : ℕ) (l : Cycle) → next ≡ over (rowsOf g (edps g)) rows₀ → n ≡ rules g → l ≡ cycleIn next n
     → l ≡ At r o → Came g (afterNine g) rows₀ plan₀ (P.the-variants.Refused (CircularEdp r o)) next plan₀
 unfolding afterIdp answerOf rowsAfter planAfter
 ten-came g rows₀ plan₀ next n r o l f m j e =
@@ -171,7 +171,7 @@ ten-came g rows₀ plan₀ next n r o l f m j e =
 
 -- what the plan is written from
 pub ordered-ready : (g offsets ids s rows₀ next : List ℕ) (planLength n : ℕ) (l : Cycle) → next ≡ over (rowsOf g (edps g)) rows₀
-    → s ≡ setsOf g ids → Noncircular g offsets ids rows₀ planLength → l ≡ cycleIn next n → n ≡ getD g 1 0 → l ≡ Nothing
+    → s ≡ setsOf g ids → Noncircular g offsets ids rows₀ planLength → l ≡ cycleIn next n → n ≡ rules g → l ≡ Nothing
     → Ordered g offsets s next planLength
 ordered-ready g offsets ids s rows₀ next planLength n l f es w j m e =
     record {
@@ -187,8 +187,8 @@ ordered-ready g offsets ids s rows₀ next planLength n l f es w j m e =
 
 -- accepted
 pub plan-came : (g offsets ids rows₀ plan₀ next plan : List ℕ) (n : ℕ) (l : Cycle) → Noncircular g offsets ids rows₀ (length plan₀)
-    → next ≡ over (rowsOf g (edps g)) rows₀ → plan ≡ over (acceptedPlan g) plan₀ → n ≡ getD g 1 0 → l ≡ cycleIn next n → l ≡ Nothing
-    → Came g (afterNine g) rows₀ plan₀ (P.the-variants.Accepted (256 + 112 * n)) next plan
+    → next ≡ over (rowsOf g (edps g)) rows₀ → plan ≡ over (acceptedPlan g) plan₀ → n ≡ rules g → l ≡ cycleIn next n → l ≡ Nothing
+    → Came g (afterNine g) rows₀ plan₀ (P.the-variants.Accepted (planWords n)) next plan
 unfolding answerOf rowsAfter planAfter
 plan-came g offsets ids rows₀ plan₀ next plan n l w f p m j e =
     let d = ordered-ready g offsets ids (setsOf g ids) rows₀ next (length plan₀) n l f refl w j m e in

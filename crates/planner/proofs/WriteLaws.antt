@@ -10,6 +10,7 @@ use lib.ListN.{length, getD, drop, length-append}
 use lib.Seq.{take-append-seam, drop-append-add, drop-drop}
 use Rattle.basics.specs.Lists.{word, blocks}
 use Rattle.basics.proofs.ListLaws.{length-blocks, length-padded}
+use Rattle.grammar.specs.Limits.{mostRules, mostOccurrences, ruleWords, planWords}
 use Rattle.grammar.specs.Table.{rules}
 use Rattle.grammar.proofs.AcceptedTable.{accepted}
 use Rattle.relations.specs.Computed.{idsOf}
@@ -55,17 +56,17 @@ first-written block lent =
 abbrev sequences : List ℕ → ℕ → List ℕ
 sequences g r = blocks r (λ q. sequenceWords (sequencesOf g q))
 
-sequence-length : (g : List ℕ) (q : ℕ) → length (sequenceWords (sequencesOf g q)) ≡ 112
+sequence-length : (g : List ℕ) (q : ℕ) → length (sequenceWords (sequencesOf g q)) ≡ ruleWords
 unfolding sequenceWords sequencesOf
-sequence-length g q = length-padded 112 _ (omega (arith, planned-short g q))
+sequence-length g q = length-padded ruleWords _ (omega (arith, planned-short g q))
 
-done-length : (g : List ℕ) (r : ℕ) → length (sets g ++ sequences g r) ≡ 256 + 112 * r
+done-length : (g : List ℕ) (r : ℕ) → length (sets g ++ sequences g r) ≡ planWords r
 done-length g r =
     length-append (sets g) (sequences g r)
     ∙ ap₂ (λ (a b : ℕ). a + b) (length-sets g (idsOf g))
-    (length-blocks 112 r (λ q. sequenceWords (sequencesOf g q)) (λ q h. sequence-length g q) ∙ mul-comm r 112)
+    (length-blocks ruleWords r (λ q. sequenceWords (sequencesOf g q)) (λ q h. sequence-length g q) ∙ mul-comm r ruleWords)
 
-pub accepted-length : (g : List ℕ) → length (acceptedPlan g) ≡ 256 + 112 * rules g
+pub accepted-length : (g : List ℕ) → length (acceptedPlan g) ≡ planWords (rules g)
 unfolding acceptedPlan planOf
 accepted-length g = done-length g (rules g)
 
@@ -91,7 +92,7 @@ plan-start g offsets s rows lent entry w e =
 pub write-room : (g offsets s rows : List ℕ) (n : ℕ) → Ordered g offsets s rows n → 0 + length s ≤ n
 write-room g offsets s rows n w = omega (arith, ap length (w .setsAre), length-sets g (idsOf g), w .planRoom)
 
-pub plan-rule : (g offsets s rows entry plan : List ℕ) (r n : ℕ) → PlanTo g offsets s rows entry plan r → n ≡ getD g 1 0 → r < n → r < 64
+pub plan-rule : (g offsets s rows entry plan : List ℕ) (r n : ℕ) → PlanTo g offsets s rows entry plan r → n ≡ rules g → r < n → r < mostRules
 plan-rule g offsets s rows entry plan r n w m h = omega (arith, accepted g (w .ready .good) .rulesFit)
 
 pub plan-length : (g offsets s rows entry plan : List ℕ) (r : ℕ) → PlanTo g offsets s rows entry plan r → length plan ≡ length entry
@@ -107,7 +108,7 @@ plan-kept g offsets s rows lent entry plan r d e w =
     ∙ over-size s lent (omega (arith, ap length (d .setsAre), length-sets g (idsOf g), d .planRoom)))
 
 -- what the sequence of rule r asks for
-pub plan-given : (g offsets s rows entry plan : List ℕ) (r p n : ℕ) → PlanTo g offsets s rows entry plan r → n ≡ getD g 1 0 → r < n → p ≡ getD offsets r 0
+pub plan-given : (g offsets s rows entry plan : List ℕ) (r p n : ℕ) → PlanTo g offsets s rows entry plan r → n ≡ rules g → r < n → p ≡ getD offsets r 0
     → Given g s rows p r
 plan-given g offsets s rows entry plan r p n w m h e =
     let d = w .ready in
@@ -120,14 +121,14 @@ plan-given g offsets s rows entry plan r p n w m h e =
       noncircular = no-idp-cycle g (d .good) (d .noIdpCycle);
       ordered = no-edp-cycle g (d .good) (d .noEdpCycle);
       room = d .size;
-      paths = λ o b. ap (λ (x : List ℕ). word x (64 * r + o)) (d .paths) ∙ over-row g (edpPaths g (idsOf g) (setsOf g (idsOf g))) rows r o l b;
+      paths = λ o b. ap (λ (x : List ℕ). word x (mostOccurrences * r + o)) (d .paths) ∙ over-row g (edpPaths g (idsOf g) (setsOf g (idsOf g))) rows r o l b;
     }
 
-pub plan-fits : (g offsets s rows entry plan : List ℕ) (r : ℕ) → PlanTo g offsets s rows entry plan r → 256 + 112 * rules g ≤ length plan
+pub plan-fits : (g offsets s rows entry plan : List ℕ) (r : ℕ) → PlanTo g offsets s rows entry plan r → planWords (rules g) ≤ length plan
 plan-fits g offsets s rows entry plan r w = omega (arith, plan-length g offsets s rows entry plan r w, w .ready .planRoom)
 
-pub plan-turn : (g offsets s rows entry plan next : List ℕ) (r n : ℕ) → PlanTo g offsets s rows entry plan r → n ≡ getD g 1 0 → r < n
-    → next ≡ written plan (256 + 112 * r) (sequenceWords (sequenceOf g (idsOf g) (setsOf g (idsOf g)) r))
+pub plan-turn : (g offsets s rows entry plan next : List ℕ) (r n : ℕ) → PlanTo g offsets s rows entry plan r → n ≡ rules g → r < n
+    → next ≡ written plan (planWords r) (sequenceWords (sequenceOf g (idsOf g) (setsOf g (idsOf g)) r))
     → PlanTo g offsets s rows entry next (r + 1)
 unfolding sequencesOf blocks
 plan-turn g offsets s rows entry plan next r n w m h e =
@@ -142,7 +143,7 @@ plan-turn g offsets s rows entry plan next r n w m h e =
           ∙ ap (λ (k : ℕ). sets g ++ sequences g k) (sym (add-one r)))));
     }
 
-pub plan-finish : (g offsets s rows lent entry plan : List ℕ) (r n : ℕ) → PlanTo g offsets s rows entry plan r → n ≡ getD g 1 0 → n ≤ r
+pub plan-finish : (g offsets s rows lent entry plan : List ℕ) (r n : ℕ) → PlanTo g offsets s rows entry plan r → n ≡ rules g → n ≤ r
     → entry ≡ written lent 0 s → plan ≡ over (acceptedPlan g) lent
 unfolding acceptedPlan planOf
 plan-finish g offsets s rows lent entry plan r n w m h e =

@@ -8,6 +8,7 @@ use lib.ListN.{length}
 use Rattle.basics.specs.Lists.{padded}
 use Rattle.grammar.specs.declared.Verdict.{Verdict}
 use Rattle.grammar.specs.declared.Verdict.the-variants.{Good}
+use Rattle.grammar.specs.Limits.{rowWords, planWords}
 use Rattle.grammar.specs.Table.{rules}
 use Rattle.grammar.specs.Reading.{readTable}
 use Rattle.relations.specs.Computed.{idsOf}
@@ -45,11 +46,11 @@ pub record Ordered (g offsets s rows : List ℕ) (planLength : ℕ) : Type 0 whe
   pub good : readTable g ≡ Good
   pub starts : offsets ≡ offsetsFor g Good
   pub setsAre : s ≡ sets g
-  pub size : 64 * rules g ≤ length rows
+  pub size : rowWords (rules g) ≤ length rows
   pub paths : rows ≡ over (rowsOf g (edpPaths g (idsOf g) (sets g))) rows
   pub noIdpCycle : circular g (idpPaths g (idsOf g)) ≡ false
   pub noEdpCycle : circular g (edpPaths g (idsOf g) (sets g)) ≡ false
-  pub planRoom : 256 + 112 * rules g ≤ planLength
+  pub planRoom : planWords (rules g) ≤ planLength
 
 -- how far planning comes once 1 to 8, and once 1 to 9, are ruled out
 abbrev pub afterEight : List ℕ → Outcome

@@ -18,7 +18,7 @@ ghost use Rattle.planner.specs.Stages as ready;
 fn room(words: &[u16], rows: usize, plan: usize) -> Verdict
     ensures { λ r. ⌜ r ≡ answer.room (now (words .entry)) rows plan ⌝ }
 {
-    let rules = access::word(words, 1);
+    let rules = access::rules(words);
     if rows < ROWS * rules {
         return Verdict::Refused(Refusal::TooShort(0));
     }
@@ -29,12 +29,18 @@ fn room(words: &[u16], rows: usize, plan: usize) -> Verdict
 }
 
 // The plan of an ordered grammar: its set words, then the visit-sequence of each rule.
-fn write_plan(words: &[u16], offsets: &Offsets, sets: &[u16; 256], rows: &[u64], plan: &mut [u16])
+fn write_plan(
+    words: &[u16],
+    offsets: &Offsets,
+    sets: &[u16; SET_WORDS],
+    rows: &[u64],
+    plan: &mut [u16],
+)
     requires { ⌜ ready.Ordered (now words) (now offsets) (now sets) (now rows) (length (now plan)) ⌝ }
     ensures { λ _. ⌜ now (plan .exit) ≡ over (answer.acceptedPlan (now (words .entry))) (now (plan .entry)) ⌝ }
 {
     sequencing::write(plan, 0, sets);
-    let count = access::word(words, 1);
+    let count = access::rules(words);
     for r in 0..count {
         sequencing::sequence(words, access::rule_at(offsets, r), r, sets, rows, plan);
     }
@@ -51,7 +57,7 @@ fn plan_noncircular(
     requires { ⌜ ready.Noncircular (now words) (now offsets) (now ids) (now rows) (length (now plan)) ⌝ }
     ensures { λ r. ⌜ ready.Came (now (words .entry)) (ready.afterNine (now (words .entry))) (now (rows .entry)) (now (plan .entry)) r (now (rows .exit)) (now (plan .exit)) ⌝ }
 {
-    let rules = access::word(words, 1);
+    let rules = access::rules(words);
     let sets = placing::sets_of(words, ids);
     extending::extend(words, offsets, &sets, rows);
     let edp_cycle = inducing::find_cycle(rows, rules);
@@ -68,7 +74,7 @@ fn plan_relations(words: &[u16], offsets: &Offsets, rows: &mut [u64], plan: &mut
     ensures { λ r. ⌜ ready.Came (now (words .entry)) (ready.afterEight (now (words .entry))) (now (rows .entry)) (now (plan .entry)) r (now (rows .exit)) (now (plan .exit)) ⌝ }
 {
     let ids = inducing::induce(words, offsets, rows);
-    let idp_cycle = inducing::find_cycle(rows, access::word(words, 1));
+    let idp_cycle = inducing::find_cycle(rows, access::rules(words));
     if let Cycle::At(r, o) = idp_cycle {
         return Planned::Refused(Refusal::CircularIdp(r, o));
     }
@@ -79,7 +85,7 @@ fn plan_relations(words: &[u16], offsets: &Offsets, rows: &mut [u64], plan: &mut
 pub fn plan_read(
     words: &[u16],
     verdict: Verdict,
-    offsets: &[u16; 64],
+    offsets: &Offsets,
     rows: &mut [u64],
     plan: &mut [u16],
 ) -> Planned

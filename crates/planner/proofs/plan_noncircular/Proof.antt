@@ -6,8 +6,8 @@ use borrow.Author.Needs.{needs}
 use Rattle.planner.proofs.plan_noncircular.Statement.{statement}
 use Rattle.planner.proofs.plan_noncircular.Tie as tie
 
-word-requires : tie.Need-word-requires
-word-requires c κs = search needs
+rules-requires : tie.Need-rules-requires
+rules-requires c κs = search needs
 
 sets-of-requires : tie.Need-sets-of-requires
 sets-of-requires c κs = search needs
@@ -41,7 +41,7 @@ write-plan-requires c κs =
     search (
       ordered-ready,
       entered .pre,
-      counted .word .ensures .0,
+      counted .rules .ensures .0,
       placed .sets-of .ensures,
       extended .extend .ensures,
       found .find-cycle .ensures,
@@ -72,7 +72,7 @@ returns-2 c =
     search (
       plan-came,
       entered .pre,
-      counted .word .ensures .0,
+      counted .rules .ensures .0,
       extended .extend .ensures,
       found .find-cycle .ensures,
       told .enum-told .given .1,
@@ -83,7 +83,7 @@ pub plan-noncircular-spec : {M : Type 1} → statement M
 plan-noncircular-spec =
     tie.close
     (tie.spec
-    word-requires
+    rules-requires
     sets-of-requires
     extend-requires
     find-cycle-requires

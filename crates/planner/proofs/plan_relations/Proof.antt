@@ -9,8 +9,8 @@ use Rattle.planner.proofs.plan_relations.Tie as tie
 induce-requires : tie.Need-induce-requires
 induce-requires c κs = (search needs, (search needs, search rows-room))
 
-word-requires : tie.Need-word-requires
-word-requires c κs = search needs
+rules-requires : tie.Need-rules-requires
+rules-requires c κs = search needs
 
 find-cycle-requires : tie.Need-find-cycle-requires
 find-cycle-requires c κs = (search few-rules, search search-room)
@@ -40,7 +40,7 @@ plan-noncircular-requires c κs =
       entered .pre,
       induced .induce .ensures .0,
       induced .induce .ensures .1,
-      counted .word .ensures .0,
+      counted .rules .ensures .0,
       found .find-cycle .ensures,
       told .enum-told .given .1,
     )
@@ -59,7 +59,7 @@ plan-relations-spec =
     tie.close
     (tie.spec
     induce-requires
-    word-requires
+    rules-requires
     find-cycle-requires
     enum-known-idp-cycle
     same-length

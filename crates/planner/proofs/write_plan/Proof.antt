@@ -14,8 +14,8 @@ abbrev μ-loop : tie.MeasureT-loop
 write-requires : tie.Need-write-requires Inv-loop μ-loop
 write-requires c κs = search (write-room, needs)
 
-word-requires : tie.Need-word-requires Inv-loop μ-loop
-word-requires c κs = search needs
+rules-requires : tie.Need-rules-requires Inv-loop μ-loop
+rules-requires c κs = search needs
 
 loop-holds : tie.Need-loop-holds Inv-loop μ-loop
 loop-holds c = search plan-start
@@ -27,7 +27,7 @@ sequence-requires : tie.Need-sequence-requires Inv-loop μ-loop
 sequence-requires c κs =
     let taken = c .before .before in
     let turn = taken .before in (
-      search (plan-given, turn .loop .inv, turn .before .word .ensures .0, taken .loop-test .taken, c .before .rule-at .ensures),
+      search (plan-given, turn .loop .inv, turn .before .rules .ensures .0, taken .loop-test .taken, c .before .rule-at .ensures),
       search (plan-fits, turn .loop .inv),
     )
 
@@ -42,7 +42,7 @@ loop-again c =
     let written = c .before .before in
     let taken = written .before .before .before in
     let turn = taken .before in
-    search (plan-turn, turn .loop .inv, turn .before .word .ensures .0, taken .loop-test .taken, written .sequence .ensures)
+    search (plan-turn, turn .loop .inv, turn .before .rules .ensures .0, taken .loop-test .taken, written .sequence .ensures)
 
 same-length : tie.Need-same-length Inv-loop μ-loop
 same-length c = search plan-kept
@@ -57,7 +57,7 @@ write-plan-spec =
     Inv-loop
     μ-loop
     write-requires
-    word-requires
+    rules-requires
     loop-holds
     rule-at-requires
     sequence-requires
