@@ -1,6 +1,6 @@
 -- The lowest compute that nothing blocks is the next action: a compute is ready exactly where nothing blocks it, and every other action has a
 -- higher number. Assumes nothing.
-use Prim.Native.Nat.{ℕ, _*_, _<_}
+use Prim.Native.Nat.{ℕ, _<_}
 use mathlib.Core.Path.{_≡_, sym, subst, subst⁻¹}
 use mathlib.Core.Logic.{⊎-elim}
 use mathlib.Core.Bool.{Bool}
@@ -10,6 +10,7 @@ use lib.Dec.{T, T-not, not-T}
 use Rattle.bits.specs.Bit.{hasb, remove, minus, First}
 use Rattle.bits.proofs.MemberLaws.{none-left, has-not, has-other, minus-both, both-minus}
 use Rattle.basics.proofs.TestLaws.{same-or-not}
+use Rattle.grammar.specs.Limits.{rowWords}
 use Rattle.grammar.specs.Table.{defining}
 use Rattle.relations.specs.Computed.{idsOf}
 use Rattle.sequences.specs.Actions.{Action, compute, decode, makes}
@@ -32,7 +33,7 @@ module _ (g s rows : List ℕ) (p r : ℕ) (given : RuleGiven g s rows p r) wher
     computed o h t =
         belongs-compute g s r o (action-belongs g s r o (compute o) (decode-compute o h) (going .actions o (left-compute c v l o h t)))
 
-    module _ (blocked : ℕ) (rule : Blocked rows (64 * r) w blocked) where
+    module _ (blocked : ℕ) (rule : Blocked rows (rowWords r) w blocked) where
       -- a compute is ready exactly where nothing blocks it
       unblocked : (o : ℕ) → o < 64 → T (hasb o c) → ActionReady g s r c v l o → T (hasb o (minus c blocked))
       unblocked o h t f =
