@@ -44,7 +44,8 @@ module _ (g : List ℕ) (good : readTable g ≡ Good) where
       subst⁻¹ (λ (w : ℕ). (bit b w ≡ 1) ↔ path r o b) (over-row g paths lent r o (counts-below g r c) h)
       (⊎-elim
       (λ l. (
-        λ e. exact r o b c .0 (subst (λ (t : Bool). T t) (hasb-collect mostOccurrences b (λ b. paths r o b) l) (eq-T (bit b (collect mostOccurrences (λ b. paths r o b))) 1 e)),
+        λ e. exact r o b c .0 (subst (λ (t : Bool). T t) (hasb-collect mostOccurrences b (λ b. paths r o b) l)
+            (eq-T (bit b (collect mostOccurrences (λ b. paths r o b))) 1 e)),
         λ p.
             eqb→eq (bit b (collect mostOccurrences (λ b. paths r o b))) 1
             (subst⁻¹ (λ (t : Bool). T t) (hasb-collect mostOccurrences b (λ b. paths r o b) l) (exact r o b c .1 p)),

@@ -51,7 +51,8 @@ module _ (g : List ℕ) (paths : ℕ → ℕ → ℕ → Bool) where
     pub over-length : rowWords (rules g) ≤ length lent → length (over (rowsOf g paths) lent) ≡ length lent
     over-length h = over-size (rowsOf g paths) lent (omega (arith, rows-length))
 
-    pub over-row : (r o : ℕ) → r < rules g → o < mostOccurrences → word (over (rowsOf g paths) lent) (rowWords r + o) ≡ collect mostOccurrences (λ b. paths r o b)
+    pub over-row : (r o : ℕ) → r < rules g → o < mostOccurrences
+        → word (over (rowsOf g paths) lent) (rowWords r + o) ≡ collect mostOccurrences (λ b. paths r o b)
     unfolding over
     over-row r o h l =
         List·getD-append (rowsOf g paths) (drop (length (rowsOf g paths)) lent) 0 (rowWords r + o) (omega (arith, rows-length)) ∙ rows-word r o h l

@@ -41,7 +41,8 @@ module _ (g s rows : List ℕ) (p r : ℕ) (given : RuleGiven g s rows p r) wher
           (not-T (hasb o blocked)
           (λ u.
           let k = rule .by o u in
-          free-quiet g (idsOf g) s r (orderly-rule g s rows p r given) (five-visits g s rows p r given) (remains c v l) w going o (computed o h t) f (k .0) (k .1)
+          free-quiet g (idsOf g) s r (orderly-rule g s rows p r given) (five-visits g s rows p r given) (remains c v l) w going o
+          (computed o h t) f (k .0) (k .1)
           (subst (λ (x : Bool). T x) (row-path g s rows p r given (k .0) o (waiting-fits g s rows p r given c v l w going (k .0) (k .1)) h) (k .2))))
 
       ready-compute : (o : ℕ) → o < 64 → T (hasb o (minus c blocked)) → ActionReady g s r c v l o

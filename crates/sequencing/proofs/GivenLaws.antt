@@ -98,7 +98,8 @@ module _ (g s rows : List ℕ) (p r : ℕ) where
     where
       row-below : (o : ℕ) → o < mostOccurrences → (k : ℕ) → T (hasb k (word rows (rowWords r + o))) → k < mostOccurrences
       row-below o h k t =
-          hasb-below mostOccurrences k _ (collect-lt mostOccurrences (λ b. edpPaths g (idsOf g) (setsOf g (idsOf g)) r o b)) (subst (λ (x : ℕ). T (hasb k x)) (given .paths o h) t)
+          hasb-below mostOccurrences k _ (collect-lt mostOccurrences (λ b. edpPaths g (idsOf g) (setsOf g (idsOf g)) r o b))
+          (subst (λ (x : ℕ). T (hasb k x)) (given .paths o h) t)
 
       has-path : (o b : ℕ) → o < mostOccurrences → b < mostOccurrences → T (hasb b (word rows (rowWords r + o))) → Path⁺ (EDP g (setNumber s) r) o b
       has-path o b h m t =

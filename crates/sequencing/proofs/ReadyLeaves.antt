@@ -190,7 +190,8 @@ module _ (g ids s : List ℕ) (r : ℕ) (h : Orderly g ids s r) (five : (x : ℕ
             ready .next m (x .first) (omega arith) (subst (λ (p : ℕ). T (left p)) e t)
 
         go : ActionIs g s r b
-            → (numberOf (leave n) ≡ b → ⊥) × (LinkedByArc g ids s r (decode (numberOf (leave n))) (decode b) ⊎ T (besides g s r (decode (numberOf (leave n))) (decode b)))
+            → (numberOf (leave n) ≡ b → ⊥) × (LinkedByArc g ids s r (decode (numberOf (leave n))) (decode b) ⊎ T
+            (besides g s r (decode (numberOf (leave n))) (decode b)))
             → ⊥
         go x e =
             ⊎-elim (λ u. linked u x (e .0))

@@ -172,7 +172,8 @@ module _ (g ids s : List ℕ) (r : ℕ) (h : Orderly g ids s r) (five : (x : ℕ
                 let k = makes-visit g s r j m (u .source) (subst (λ (x : Action). T (makes g s r x (u .source))) d (u .sourceMade)) in
                 let y : j ≡ i = sym (synthesized-of g s r j m (u .source) (k .1) .0 .stands) ∙ place in
                 let z = visit-odd g ids s r h j m (u .source) (k .0) (k .1) in
-                let lower : m ≤ n = not-later (visits s (symbolOf g r j)) (visits s (symbolOf g r i)) m n (setAt g s r (u .source)) (ap (λ (p : ℕ). visits s (symbolOf g r p)) y) z high (c .last) in
+                let lower : m ≤ n = not-later (visits s (symbolOf g r j)) (visits s (symbolOf g r i)) m n (setAt g s r (u .source))
+                (ap (λ (p : ℕ). visits s (symbolOf g r p)) y) z high (c .last) in
                 ⊎-elim
                 (λ p.
                 ready .next m (x .first) p
@@ -200,7 +201,8 @@ module _ (g ids s : List ℕ) (r : ℕ) (h : Orderly g ids s r) (five : (x : ℕ
         besides₂ (leaves m q e d x) u = subst (λ (x : Action). T (beforeVisit g s r i n x)) d u
 
         go : ActionIs g s r b
-            → (numberOf (visit i n) ≡ b → ⊥) × (LinkedByArc g ids s r (decode (numberOf (visit i n))) (decode b) ⊎ T (besides g s r (decode (numberOf (visit i n))) (decode b)))
+            → (numberOf (visit i n) ≡ b → ⊥) × (LinkedByArc g ids s r (decode (numberOf (visit i n))) (decode b) ⊎ T
+            (besides g s r (decode (numberOf (visit i n))) (decode b)))
             → ⊥
         go x e =
             ⊎-elim (λ u. linked u x (e .0))
