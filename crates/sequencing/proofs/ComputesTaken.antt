@@ -16,7 +16,7 @@ use Rattle.relations.specs.Computed.{idsOf}
 use Rattle.sequences.specs.Actions.{Action, compute, decode, makes}
 use Rattle.sequences.proofs.ActionNumbers.{decode-compute}
 use Rattle.sequences.proofs.ActionLaws.{belongs-compute, action-belongs}
-use Rattle.sequences.proofs.MakesLaws.{makes-compute, compute-makes}
+use Rattle.sequences.proofs.MakesLaws.{makes-compute, compute-made}
 use Rattle.sequencing.specs.Given.{RuleGiven}
 use Rattle.remaining.specs.Remaining.{remains}
 use Rattle.sequencing.specs.Going.{Going, Taken}
@@ -74,8 +74,7 @@ module _ (g s rows : List ℕ) (p r : ℕ) (given : RuleGiven g s rows p r) wher
           ⊎-elim
           (λ q.
           absurd (n (subst⁻¹ (λ (y : ℕ). T (makes g s r (decode o) y)) q
-          (subst⁻¹ (λ (y : Action). T (makes g s r y o)) (decode-compute o (f .small))
-          (compute-makes g s r o (computed o (f .small) here))))))
+          (compute-made g s r o (f .small) (computed o (f .small) here)))))
           (λ q. subst⁻¹ (λ (y : Bool). T y) (has-other o x w q) t) (same-or-not x o))
         where
           here : T (hasb o c)

@@ -4,7 +4,7 @@ use Prim.Native.Nat.{ℕ, suc, _+_, _-_, _≤_, _<_}
 use mathlib.Core.Path.{_≡_, refl, sym, _∙_, ap, ap₂, subst, subst⁻¹}
 use mathlib.Core.Bool.{Bool}
 use lib.Dec.{T}
-use mathlib.Core.List.{List, [], _∷_, _++_, append-assoc}
+use mathlib.Core.List.{List, [], _∷_, _++_, append-assoc, append-nil}
 use native.Mathlib.Omega.{arith}
 use native.Mathlib.Numerals.{add-one}
 use lib.ListN.{length, getD, set, take, drop, replicate, length-append}
@@ -123,7 +123,7 @@ module _ (g s rows : List ℕ) (p r : ℕ) where
       let all : sequenceOf g (idsOf g) s r ≡ k .out =
       k .rest
       ∙ (ap (λ (m : ℕ). k .out ++ order (λ a b. follows g (idsOf g) s r a b) m (remaining (remains c v l))) z
-      ∙ mathlib.Core.List.append-nil (k .out)) in
+      ∙ append-nil (k .out)) in
       let f : length (k .out) ≡ n = k .outLength ∙ e in
       let m : longestSequence - j ≡ ruleWords - suc (length (k .out)) = omega (arith, k .outLength) in
       k .blockIs
