@@ -124,8 +124,11 @@ module _ (g : List ℕ) (rowsLength planLength : ℕ) where
   -- how far planning comes: with n exactly if n is the first case that applies
   pub plan-outcome : (n : Refusal) → (outcome g rowsLength planLength ≡ refusedWith g n) ↔ PlanRefuses g rowsLength planLength n
   unfolding Settled
-  plan-outcome n =
-      (λ e. plan-verdict g rowsLength planLength .refused n .0 (ap verdictOf e ∙ of-refusal n), λ f. settled n (plan-verdict g rowsLength planLength .refused n .1 f))
+  plan-outcome n = (
+    λ e. plan-verdict g rowsLength planLength .refused n .0 (ap verdictOf e ∙ of-refusal n),
+    λ f. settled n
+        (plan-verdict g rowsLength planLength .refused n .1 f),
+  )
 
   -- and to the end exactly if none applies
   pub plan-done : (outcome g rowsLength planLength ≡ accepts) ↔ ((n : Refusal) → ¬ PlanCase g rowsLength planLength n)

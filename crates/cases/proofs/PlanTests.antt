@@ -33,14 +33,14 @@ use Rattle.plans.specs.Answer.{
   answerOf,
 }
 use Rattle.cases.specs.First.{readyWalk, walk, earlierWalk, GoesBy}
-use Rattle.cases.specs.PlanningCases.{PlanCase, inTable, inPlanning}
+use Rattle.cases.specs.PlanningCases.{PlanningCase, PlanCase, inTable, inPlanning}
 use Rattle.cases.specs.PlanningCases as case
 use Rattle.cases.specs.TableCases.{TableCase}
 use Rattle.cases.specs.AllCases.{PlanRefuses}
 use Rattle.cases.proofs.FirstLaws.{good-not-refused, by-finding, goes-then}
 use Rattle.cases.proofs.TableOrder.{table-number, table-walk}
 use Rattle.cases.proofs.TableTests.{table-verdict}
-use Rattle.cases.proofs.PlanningFirst.{verdictOf, C, planning-walk, found-planning}
+use Rattle.cases.proofs.PlanningFirst.{verdictOf, planning-walk, found-planning}
 
 -- reading, room, and what comes after them
 verdict-parts : (g : List ℕ) (v w : Verdict)
@@ -51,7 +51,7 @@ verdict-parts g Good (Refused n) = refl
 verdict-parts g (Refused n) w = refl
 
 module _ (g : List ℕ) (rowsLength planLength : ℕ) where
-  either : (n : Refusal) → PlanCase g rowsLength planLength n → TableCase g n ⊎ C g rowsLength planLength n
+  either : (n : Refusal) → PlanCase g rowsLength planLength n → TableCase g n ⊎ PlanningCase g rowsLength planLength n
   either n (inTable c) = inl c
   either n (inPlanning c) = inr c
 
@@ -64,10 +64,10 @@ module _ (g : List ℕ) (rowsLength planLength : ℕ) where
   unfolding outcome
   plan-verdict =
       subst⁻¹ (GoesBy g (PlanCase g rowsLength planLength)) (verdict-parts g (readTable g) (room g rowsLength planLength))
-      (goes-then g (TableCase g) (C g rowsLength planLength) (PlanCase g rowsLength planLength) (λ n c. inTable c) (λ n c. inPlanning c) either
+      (goes-then g (TableCase g) (PlanningCase g rowsLength planLength) (PlanCase g rowsLength planLength) (λ n c. inTable c) (λ n c. inPlanning c) either
       (λ m n c d. omega (arith, table-walk g m c, planning-walk g rowsLength planLength n d .0)) (readTable g)
       (room g rowsLength planLength then verdictOf (afterRoom g (idsOf g))) (table-verdict g)
-      (λ e. by-finding g (C g rowsLength planLength) _ (found-planning g rowsLength planLength e)))
+      (λ e. by-finding g (PlanningCase g rowsLength planLength) _ (found-planning g rowsLength planLength e)))
 
   -- what planning answers
   refused-answer : (o : Outcome) (n : Refusal) → (answerOf g o ≡ P.the-variants.Refused n) ↔ (verdictOf o ≡ Refused n)

@@ -60,7 +60,7 @@ verdictOf (unordered n) = Refused n
 verdictOf accepts = Good
 
 module _ (g : List ℕ) (rowsLength planLength : ℕ) where
-  abbrev pub C : Refusal → Type 1
+  abbrev C : Refusal → Type 1
   C = PlanningCase g rowsLength planLength
 
   pub planning-walk : (n : Refusal) → C n → (roomWalk ≤ walk g n) × (walk g n ≤ readyWalk)

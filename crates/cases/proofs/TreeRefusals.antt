@@ -58,7 +58,7 @@ count-pair f (suc n) h =
     (tested (f n))
 
 module _ (g t : List ℕ) (l : ℕ) (table : WellFormed g) where
-  abbrev pub C : Refusal → Type 1
+  abbrev C : Refusal → Type 1
   C = TreeCase g t l
 
   -- a word that is known names a rule or a terminal

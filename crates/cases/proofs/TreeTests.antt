@@ -42,6 +42,7 @@ use Rattle.trees.specs.Checking.{
 use Rattle.trees.specs.Formed.{ChildOf}
 use Rattle.trees.proofs.AcceptedTree.{names-slot}
 use Rattle.cases.specs.First.{GoesBy}
+use Rattle.cases.specs.TreeCases.{TreeCase}
 use Rattle.cases.specs.TreeCases as case
 use Rattle.cases.proofs.PassedLaws.{
   ends-unless,
@@ -61,7 +62,6 @@ use Rattle.cases.proofs.TreeRefusals.{
   names,
   AllKnown,
   inside-words,
-  C,
   nodesPart,
   childrenPart,
   oncePart,
@@ -140,90 +140,90 @@ module _ (g t : List ℕ) (l : ℕ) (table : WellFormed g) where
       (omega arith, omega arith)
 
   abbrev Past : Verdict → ℕ → Type 0
-  Past v k = Passed (C g t l table) (key t) v k
+  Past v k = Passed (TreeCase g t l) (key t) v k
 
   -- Each part, once the check has passed a key of it.
   past-unless : (b : Bool) (n : Refusal) (k : ℕ) → key t n ≤ k → Past (unless b n) k → T b
-  past-unless b n k h p = passed-unless (C g t l table) (key t) b n (passed-down (C g t l table) (key t) (unless b n) (key t n) k h p)
+  past-unless b n k h p = passed-unless (TreeCase g t l) (key t) b n (passed-down (TreeCase g t l) (key t) (unless b n) (key t n) k h p)
 
   past-size : (k : ℕ) → Past (checkTree g t l) k → Past (unless (sizeFits t) TreeSize) k
   unfolding checkTree
-  past-size k p = passed-first (C g t l table) (key t) _ _ k p
+  past-size k p = passed-first (TreeCase g t l) (key t) _ _ k p
 
   after-size : (k : ℕ) → 13 * (2 * nodes t + 2) ≤ suc k → Past (checkTree g t l) k
       → Past (nodesPart g t l table then unless (rootIsStart g t) RootNotStart then childrenPart g t l table then oncePart g t l table
       then unless (leb (valueWords t) l) ValuesTooShort) k
   unfolding checkTree nodesPart childrenPart oncePart
-  after-size k h p = passed-second (C g t l table) (key t) _ _ k (in-size g t l table (suc k) h .ends) p
+  after-size k h p = passed-second (TreeCase g t l) (key t) _ _ k (in-size g t l table (suc k) h .ends) p
 
   past-nodes : (k : ℕ) → 13 * (2 * nodes t + 2) ≤ suc k → Past (checkTree g t l) k → Past (nodesPart g t l table) k
-  past-nodes k h p = passed-first (C g t l table) (key t) _ _ k (after-size k h p)
+  past-nodes k h p = passed-first (TreeCase g t l) (key t) _ _ k (after-size k h p)
 
   past-node : (n k : ℕ) → n < nodes t → 13 * (2 * nodes t + 2) + 2 * n ≤ k → Past (checkTree g t l) k → Past (nodeFault g t n) k
   unfolding nodesPart
   past-node n k m h p =
-      passed-each (C g t l table) (key t) (nodes t) (λ n. nodeFault g t n) k n m (λ j s. in-node g t l table j (suc k) (omega arith) (omega arith) .ends)
+      passed-each (TreeCase g t l) (key t) (nodes t) (λ n. nodeFault g t n) k n m (λ j s. in-node g t l table j (suc k) (omega arith) (omega arith) .ends)
       (past-nodes k (omega arith) p)
 
   past-word : (n k : ℕ) → n < nodes t → 13 * (2 * nodes t + 2) + 2 * n ≤ k → Past (checkTree g t l) k → T (knownWord g t n)
   unfolding nodeFault
-  past-word n k m h p = past-unless (knownWord g t n) (NoSuchRule n) k (omega arith) (passed-first (C g t l table) (key t) _ _ k (past-node n k m h p))
+  past-word n k m h p = past-unless (knownWord g t n) (NoSuchRule n) k (omega arith) (passed-first (TreeCase g t l) (key t) _ _ k (past-node n k m h p))
 
   past-slots : (n k : ℕ) → n < nodes t → 13 * (2 * nodes t + 2) + 2 * n + 1 ≤ k → Past (checkTree g t l) k → T (slotsFit g t n)
   unfolding nodeFault
   past-slots n k m h p =
       past-unless (slotsFit g t n) (BadChild n) k (omega arith)
-      (passed-second (C g t l table) (key t) _ _ k (ends-unless (C g t l table) (key t) (knownWord g t n) (NoSuchRule n) (suc k) (omega arith))
+      (passed-second (TreeCase g t l) (key t) _ _ k (ends-unless (TreeCase g t l) (key t) (knownWord g t n) (NoSuchRule n) (suc k) (omega arith))
       (past-node n k m (omega arith) p))
 
   after-nodes : (k : ℕ) → 14 * (2 * nodes t + 2) ≤ suc k → Past (checkTree g t l) k
       → Past (unless (rootIsStart g t) RootNotStart then childrenPart g t l table then oncePart g t l table then unless (leb (valueWords t) l) ValuesTooShort) k
-  after-nodes k h p = passed-second (C g t l table) (key t) _ _ k (in-nodes g t l table (suc k) h .ends) (after-size k (omega arith) p)
+  after-nodes k h p = passed-second (TreeCase g t l) (key t) _ _ k (in-nodes g t l table (suc k) h .ends) (after-size k (omega arith) p)
 
   all-known : (k : ℕ) → 14 * (2 * nodes t + 2) ≤ suc k → Past (checkTree g t l) k → nodesPart g t l table ≡ Good
-  all-known k h p = passed-all (C g t l table) (key t) (nodesPart g t l table) k (in-nodes g t l table (suc k) h .ends) (past-nodes k (omega arith) p)
+  all-known k h p = passed-all (TreeCase g t l) (key t) (nodesPart g t l table) k (in-nodes g t l table (suc k) h .ends) (past-nodes k (omega arith) p)
 
   past-root : (k : ℕ) → 15 * (2 * nodes t + 2) ≤ k → Past (checkTree g t l) k → T (rootIsStart g t)
   past-root k h p =
-      past-unless (rootIsStart g t) RootNotStart k (omega arith) (passed-first (C g t l table) (key t) _ _ k (after-nodes k (omega arith) p))
+      past-unless (rootIsStart g t) RootNotStart k (omega arith) (passed-first (TreeCase g t l) (key t) _ _ k (after-nodes k (omega arith) p))
 
   after-root : (k : ℕ) → 16 * (2 * nodes t + 2) ≤ suc k → Past (checkTree g t l) k
       → Past (childrenPart g t l table then oncePart g t l table then unless (leb (valueWords t) l) ValuesTooShort) k
-  after-root k h p = passed-second (C g t l table) (key t) _ _ k (in-root g t l table (suc k) h .ends) (after-nodes k (omega arith) p)
+  after-root k h p = passed-second (TreeCase g t l) (key t) _ _ k (in-root g t l table (suc k) h .ends) (after-nodes k (omega arith) p)
 
   -- a walk that tests each node
   past-each : (test : ℕ → Bool) (fault : ℕ → Refusal) (n k : ℕ) → n < nodes t → ((j : ℕ) → j ≤ n → key t (fault j) ≤ k)
       → Past (each (nodes t) (λ j. unless (test j) (fault j))) k → T (test n)
   past-each test fault n k m h p =
       past-unless (test n) (fault n) k (h n (omega arith))
-      (passed-each (C g t l table) (key t) (nodes t) (λ j. unless (test j) (fault j)) k n m
-      (λ j s. ends-unless (C g t l table) (key t) (test j) (fault j) (suc k) (omega (arith, h j (omega arith)))) p)
+      (passed-each (TreeCase g t l) (key t) (nodes t) (λ j. unless (test j) (fault j)) k n m
+      (λ j s. ends-unless (TreeCase g t l) (key t) (test j) (fault j) (suc k) (omega (arith, h j (omega arith)))) p)
 
   past-children : (n k : ℕ) → n < nodes t → 16 * (2 * nodes t + 2) + 2 * n ≤ k → Past (checkTree g t l) k → T (childrenFit g t n)
   unfolding childrenPart
   past-children n k m h p =
       past-each (λ j. childrenFit g t j) (λ j. ChildDiffers j) n k m (λ j s. omega arith)
-      (passed-first (C g t l table) (key t) _ _ k (after-root k (omega arith) p))
+      (passed-first (TreeCase g t l) (key t) _ _ k (after-root k (omega arith) p))
 
   after-children : (k : ℕ) → 17 * (2 * nodes t + 2) ≤ suc k → Past (checkTree g t l) k
       → Past (oncePart g t l table then unless (leb (valueWords t) l) ValuesTooShort) k
-  after-children k h p = passed-second (C g t l table) (key t) _ _ k (in-children g t l table (suc k) h .ends) (after-root k (omega arith) p)
+  after-children k h p = passed-second (TreeCase g t l) (key t) _ _ k (in-children g t l table (suc k) h .ends) (after-root k (omega arith) p)
 
   past-once : (n k : ℕ) → n < nodes t → 17 * (2 * nodes t + 2) + 2 * n ≤ k → Past (checkTree g t l) k → T (onceChild g t n)
   unfolding oncePart
   past-once n k m h p =
       past-each (λ j. onceChild g t j) (λ j. NotOneParent j) n k m (λ j s. omega arith)
-      (passed-first (C g t l table) (key t) _ _ k (after-children k (omega arith) p))
+      (passed-first (TreeCase g t l) (key t) _ _ k (after-children k (omega arith) p))
 
   past-values : (k : ℕ) → 18 * (2 * nodes t + 2) ≤ k → Past (checkTree g t l) k → valueWords t ≤ l
   past-values k h p =
       leb→le (valueWords t) l
       (past-unless (leb (valueWords t) l) ValuesTooShort k (omega arith)
-      (passed-second (C g t l table) (key t) _ _ k
+      (passed-second (TreeCase g t l) (key t) _ _ k
       (in-once g t l table (suc k) (all-known k (omega arith) p) (omega arith) .ends) (after-children k (omega arith) p)))
 
   -- Each case is tested at its key.
-  tested-at : (n : Refusal) → C g t l table n → Past (checkTree g t l) (key t n) → ⊥
+  tested-at : (n : Refusal) → TreeCase g t l n → Past (checkTree g t l) (key t n) → ⊥
   tested-at n (case.brokenNode c) p =
       c (size-passed (past-unless (sizeFits t) TreeSize (key t TreeSize) (omega arith) (past-size (key t TreeSize) p)) .0)
   tested-at n (case.noNodes c) p =
@@ -249,5 +249,5 @@ module _ (g t : List ℕ) (l : ℕ) (table : WellFormed g) where
   tested-at n (case.fewValues c) p = let v = past-values (key t ValuesTooShort) (omega arith) p in omega arith
 
   -- The verdict on a tree: good exactly if no case of 12 to 18 applies, and refusal n exactly if n is the first that applies.
-  pub tree-verdict : GoesBy g (C g t l table) (checkTree g t l)
-  tree-verdict = by-keys (C g t l table) (key t) g (checkTree g t l) (19 * (2 * nodes t + 2)) (in-tree g t l table) tested-at (keys-order g t l)
+  pub tree-verdict : GoesBy g (TreeCase g t l) (checkTree g t l)
+  tree-verdict = by-keys (TreeCase g t l) (key t) g (checkTree g t l) (19 * (2 * nodes t + 2)) (in-tree g t l table) tested-at (keys-order g t l)

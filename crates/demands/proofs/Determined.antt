@@ -29,7 +29,7 @@ use Rattle.sequences.specs.Order.{sequenceOf}
 use Rattle.sequences.specs.Paper.{Sequence}
 use Rattle.sequences.proofs.PaperSequence.{sequence-obeys}
 use Rattle.plans.specs.declared.Planned as P
-use Rattle.plans.specs.Sequences.{sequenceLength, actionAt}
+use Rattle.plans.specs.Sequences.{sequenceAt, sequenceLength, actionAt}
 use Rattle.plans.specs.Answer.{Outcome, accepted, outcome, answerOf, rowsAfter, planAfter}
 use Rattle.plans.specs.Left.{RowsHold, EDP⁺, SequenceStands, Written, Beyond}
 use Rattle.plans.proofs.Stays.{past-room, rows-stay, plan-stay}
@@ -89,17 +89,17 @@ one-plan g set lent rows₁ rows₂ s t some v w b c =
         subst (λ (q : ℕ). word s q ≡ word t q) e
         (v .setWord (j / 8) (j % 8) (omega arith) (omega arith) ∙ sym (w .setWord (j / 8) (j % 8) (omega arith) (omega arith)))
 
-    in-block : (r : ℕ) → T (ruleCounts g r) → (k : ℕ) → k < ruleWords → word s (setWords + ruleWords * r + k) ≡ word t (setWords + ruleWords * r + k)
+    in-block : (r : ℕ) → T (ruleCounts g r) → (k : ℕ) → k < ruleWords → word s (sequenceAt r + k) ≡ word t (sequenceAt r + k)
     in-block r q zero l =
         let out = some r q in
-        let e : setWords + ruleWords * r ≡ setWords + ruleWords * r + 0 = omega arith in
+        let e : sequenceAt r ≡ sequenceAt r + 0 = omega arith in
         subst (λ (n : ℕ). word s n ≡ word t n) e
         (v .sequence r q (out .0) (out .1) .lengthIs ∙ sym (w .sequence r q (out .0) (out .1) .lengthIs))
     in-block r q (suc k) l =
         let out = some r q in
         let x : SequenceStands s r (out .0) = v .sequence r q (out .0) (out .1) in
         let y : SequenceStands t r (out .0) = w .sequence r q (out .0) (out .1) in
-        let e : setWords + ruleWords * r + 1 + k ≡ setWords + ruleWords * r + suc k = omega arith in
+        let e : sequenceAt r + 1 + k ≡ sequenceAt r + suc k = omega arith in
         subst (λ (n : ℕ). word s n ≡ word t n) e
         (⊎-elim (λ m. x .actionIs k m ∙ sym (y .actionIs k m)) (λ m. x .zeros k m (omega arith) ∙ sym (y .zeros k m (omega arith)))
         (below-or-not k (length (out .0))))
@@ -108,7 +108,7 @@ one-plan g set lent rows₁ rows₂ s t some v w b c =
     inside j l m =
         let r : ℕ = (j - setWords) / ruleWords in
         let k : ℕ = (j - setWords) % ruleWords in
-        let e : setWords + ruleWords * r + k ≡ j = omega arith in
+        let e : sequenceAt r + k ≡ j = omega arith in
         subst (λ (q : ℕ). word s q ≡ word t q) e (in-block r (lt→ltb r (rules g) (omega arith)) k (omega arith))
 
 -- what two refusals with one case leave is one

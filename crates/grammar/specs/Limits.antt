@@ -1,6 +1,6 @@
 -- The limits that document 01 sets once and that a later request may move. Every other definition cites these.
 -- Assumes nothing.
-use Prim.Native.Nat.{ℕ, _+_, _*_}
+use Prim.Native.Nat.{ℕ, _+_, _*_, _-_}
 
 -- "number of symbols S (1..32)"
 abbrev pub mostSymbols : ℕ
@@ -36,6 +36,10 @@ setWords = 256
 
 abbrev pub ruleWords : ℕ
 ruleWords = 112
+
+-- "length, actions, zeros": a rule's words have room for this many actions
+abbrev pub longestSequence : ℕ
+longestSequence = ruleWords - 1
 
 -- the words of a whole plan of R rules
 abbrev pub planWords : ℕ → ℕ

@@ -25,32 +25,25 @@ use Rattle.sets.proofs.SetWords.{words-are-the-sets, word-placed, word-arcs-dow
 use Rattle.order.specs.Paper.{EDP, Neighbouring, CircularIDP}
 use Rattle.order.proofs.NeighbouringSets.{same-paths-of-plan}
 
+-- a collection over one relation of arcs is one over any with no more arcs
+collection-along : (g : List ℕ) (x : ℕ) (R S : ℕ → ℕ → Type 0) (set : ℕ → ℕ) → ((a b : ℕ) → S a b → R a b) → (k : ℕ) (member : ℕ → Type 0)
+    → Collection g x R set k member → Collection g x S set k member
+collection-along g x R S set back k member c =
+    record {
+      attributeOf = c .attributeOf;
+      unplaced = c .unplaced;
+      class = c .class;
+      successors = λ a b m e. c .successors a b m (back a b e);
+    }
+
 -- sets over one relation of arcs are sets over another with the same arcs
 module _ (g : List ℕ) (x : ℕ) (R S : ℕ → ℕ → Type 0) (set : ℕ → ℕ) (forth : (a b : ℕ) → R a b → S a b) (back : (a b : ℕ) → S a b → R a b) where
-  collection-along : (k : ℕ) (member : ℕ → Type 0) → Collection g x R set k member → Collection g x S set k member
-  collection-along k member c =
-      record {
-        attributeOf = c .attributeOf;
-        unplaced = c .unplaced;
-        class = c .class;
-        successors = λ a b m e. c .successors a b m (back a b e);
-      }
-
-  collection-back : (k : ℕ) (member : ℕ → Type 0) → Collection g x S set k member → Collection g x R set k member
-  collection-back k member c =
-      record {
-        attributeOf = c .attributeOf;
-        unplaced = c .unplaced;
-        class = c .class;
-        successors = λ a b m e. c .successors a b m (forth a b e);
-      }
-
   pub sets-along : Sets g x R set → Sets g x S set
   sets-along s =
       record {
         each = λ k h. record {
-          collection = collection-along k (λ a. set a ≡ k) (s .each k h .collection);
-          largest = λ member c. s .each k h .largest member (collection-back k member c);
+          collection = collection-along g x R S set back k (λ a. set a ≡ k) (s .each k h .collection);
+          largest = λ member c. s .each k h .largest member (collection-along g x S R set forth k member c);
         };
         placed = s .placed;
         nothing = s .nothing;

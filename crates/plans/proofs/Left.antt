@@ -44,16 +44,17 @@ module _ (g : List ℕ) (good : readTable g ≡ Good) where
       subst⁻¹ (λ (w : ℕ). (bit b w ≡ 1) ↔ path r o b) (over-row g paths lent r o (counts-below g r c) h)
       (⊎-elim
       (λ l. (
-        λ e. exact r o b c .0 (subst (λ (t : Bool). T t) (hasb-collect 64 b (λ b. paths r o b) l) (eq-T (bit b (collect 64 (λ b. paths r o b))) 1 e)),
+        λ e. exact r o b c .0 (subst (λ (t : Bool). T t) (hasb-collect mostOccurrences b (λ b. paths r o b) l)
+            (eq-T (bit b (collect mostOccurrences (λ b. paths r o b))) 1 e)),
         λ p.
-            eqb→eq (bit b (collect 64 (λ b. paths r o b))) 1
-            (subst⁻¹ (λ (t : Bool). T t) (hasb-collect 64 b (λ b. paths r o b) l) (exact r o b c .1 p)),
+            eqb→eq (bit b (collect mostOccurrences (λ b. paths r o b))) 1
+            (subst⁻¹ (λ (t : Bool). T t) (hasb-collect mostOccurrences b (λ b. paths r o b) l) (exact r o b c .1 p)),
       ))
       (λ l. (
-        λ e. absurd (omega (arith, e, bit-collect-above 64 b (λ b. paths r o b) l)),
+        λ e. absurd (omega (arith, e, bit-collect-above mostOccurrences b (λ b. paths r o b) l)),
         λ p. absurd (omega (arith, small r o b c p)),
       ))
-      (below-or-not b 64))
+      (below-or-not b mostOccurrences))
 
   -- 9 leaves the paths of IDP
   pub nine-holds : (n : Refusal) (rows : List ℕ) → RowsHold g (rowsAfter g (circularIdp n) rows) (λ r o b. IDP⁺ g r o b)

@@ -1,6 +1,6 @@
 -- The rows of a whole grammar, word by word: row o of rule r is word 64r + o, and the words past the last rule are as they were lent.
 -- Assumes nothing.
-use Prim.Native.Nat.{ℕ, _+_, _*_, _-_, _≤_, _<_}
+use Prim.Native.Nat.{ℕ, _+_, _-_, _≤_, _<_}
 use mathlib.Core.Path.{_≡_, _∙_, ap}
 use mathlib.Core.Bool.{Bool}
 use mathlib.Core.List.{List}
@@ -11,6 +11,7 @@ use lib.Seq.{getD-drop}
 use Rattle.bits.specs.Bit.{collect}
 use Rattle.basics.specs.Lists.{word, tabulate}
 use Rattle.basics.proofs.ListLaws.{getD-past, length-tabulate, getD-tabulate, length-blocks, getD-blocks}
+use Rattle.grammar.specs.Limits.{mostOccurrences, rowWords}
 use Rattle.grammar.specs.Table.{rules}
 use Rattle.plans.specs.Buffers.{over, rowsOf}
 
@@ -28,32 +29,33 @@ over-past a lent j h =
 
 module _ (g : List ℕ) (paths : ℕ → ℕ → ℕ → Bool) where
   block : ℕ → List ℕ
-  block r = tabulate 64 (λ o. collect 64 (λ b. paths r o b))
+  block r = tabulate mostOccurrences (λ o. collect mostOccurrences (λ b. paths r o b))
 
-  block-length : (r : ℕ) → length (block r) ≡ 64
+  block-length : (r : ℕ) → length (block r) ≡ mostOccurrences
   unfolding block
-  block-length r = length-tabulate 64 (λ o. collect 64 (λ b. paths r o b))
+  block-length r = length-tabulate mostOccurrences (λ o. collect mostOccurrences (λ b. paths r o b))
 
-  pub rows-length : length (rowsOf g paths) ≡ 64 * rules g
+  pub rows-length : length (rowsOf g paths) ≡ rowWords (rules g)
   unfolding rowsOf block
-  rows-length = length-blocks 64 (rules g) (λ r. block r) (λ r h. block-length r) ∙ mul-comm (rules g) 64
+  rows-length = length-blocks mostOccurrences (rules g) (λ r. block r) (λ r h. block-length r) ∙ mul-comm (rules g) mostOccurrences
 
   -- row o of rule r
-  rows-word : (r o : ℕ) → r < rules g → o < 64 → word (rowsOf g paths) (64 * r + o) ≡ collect 64 (λ b. paths r o b)
+  rows-word : (r o : ℕ) → r < rules g → o < mostOccurrences → word (rowsOf g paths) (rowWords r + o) ≡ collect mostOccurrences (λ b. paths r o b)
   unfolding rowsOf block
   rows-word r o h l =
-      ap (λ (n : ℕ). word (rowsOf g paths) (n + o)) (mul-comm 64 r)
-      ∙ (getD-blocks 64 (rules g) (λ r. block r) 0 (λ r h. block-length r) r o h l
-      ∙ getD-tabulate 64 (λ o. collect 64 (λ b. paths r o b)) 0 o l)
+      ap (λ (n : ℕ). word (rowsOf g paths) (n + o)) (mul-comm mostOccurrences r)
+      ∙ (getD-blocks mostOccurrences (rules g) (λ r. block r) 0 (λ r h. block-length r) r o h l
+      ∙ getD-tabulate mostOccurrences (λ o. collect mostOccurrences (λ b. paths r o b)) 0 o l)
 
   module _ (lent : List ℕ) where
-    pub over-length : 64 * rules g ≤ length lent → length (over (rowsOf g paths) lent) ≡ length lent
+    pub over-length : rowWords (rules g) ≤ length lent → length (over (rowsOf g paths) lent) ≡ length lent
     over-length h = over-size (rowsOf g paths) lent (omega (arith, rows-length))
 
-    pub over-row : (r o : ℕ) → r < rules g → o < 64 → word (over (rowsOf g paths) lent) (64 * r + o) ≡ collect 64 (λ b. paths r o b)
+    pub over-row : (r o : ℕ) → r < rules g → o < mostOccurrences
+        → word (over (rowsOf g paths) lent) (rowWords r + o) ≡ collect mostOccurrences (λ b. paths r o b)
     unfolding over
     over-row r o h l =
-        List·getD-append (rowsOf g paths) (drop (length (rowsOf g paths)) lent) 0 (64 * r + o) (omega (arith, rows-length)) ∙ rows-word r o h l
+        List·getD-append (rowsOf g paths) (drop (length (rowsOf g paths)) lent) 0 (rowWords r + o) (omega (arith, rows-length)) ∙ rows-word r o h l
 
-    pub over-rest : (j : ℕ) → 64 * rules g ≤ j → word (over (rowsOf g paths) lent) j ≡ word lent j
+    pub over-rest : (j : ℕ) → rowWords (rules g) ≤ j → word (over (rowsOf g paths) lent) j ≡ word lent j
     over-rest j h = over-past (rowsOf g paths) lent j (omega (arith, rows-length))

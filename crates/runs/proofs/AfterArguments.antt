@@ -25,7 +25,7 @@ use Rattle.runs.specs.Computing.{machineAt, Computing, ComputedBefore}
 use Rattle.runs.proofs.SequenceCounts.{belongs-at, rule-sound, done-leave, done-visit}
 use Rattle.runs.proofs.Balance.{rule-known, top-left}
 use Rattle.runs.proofs.ComputedOnce.{balanced-at, computing-place, computing-defined}
-use Rattle.runs.proofs.HandedOver.{places, passed, b, n-inside, n-applies, n-rule, handed-down, handed-up}
+use Rattle.runs.proofs.HandedOver.{places, passed, n-inside, n-applies, n-rule, handed-down, handed-up}
 
 module _ {g p t : List ℕ} {l : ℕ} (given : RunGiven g p t l) (values : List ℤ) where
   module _ (k n : ℕ) (rest : List ℕ) (top : machineAt g p t values k .stack ≡ n ∷ rest) where
@@ -60,21 +60,29 @@ module _ {g p t : List ℕ} {l : ℕ} (given : RunGiven g p t l) (values : List 
             let i-in : i ≤ rightLength g (ruleOf t n) =
             subst (λ (j : ℕ). j ≤ rightLength g (ruleOf t n)) (of .stands) (occurs-inside g (ruleOf t n) x occ) in
             handed-up given values k n rest top i v x first one
-            (done-visit (given .table) (given .sound) (ruleOf t n) (n-rule given values k n rest top) i first i-in (m .0) (word (places given values k) n) (before .place) v
-            (b given values k n rest top .inside n (n-inside given values k n rest top) (n-applies given values k n rest top)) (before .earlier) (at-place (visit i v) d)) (m .0) (m .1)
+            (done-visit (given .table) (given .sound) (ruleOf t n) (n-rule given values k n rest top) i first i-in (m .0)
+            (word (places given values k) n) (before .place) v
+            (balanced-at given values k n rest top .inside n (n-inside given values k n rest top) (n-applies given values k n rest top)) (before .earlier)
+            (at-place (visit i v) d)) (m .0) (m .1)
           where
             some-child : (i v : ℕ) → decode a ≡ visit i v → 1 ≤ i
             some-child i v d =
                 belongs-visit g p (ruleOf t n) i v
                 (subst (λ (z : Action). T (belongs g p (ruleOf t n) z)) (at-place (visit i v) d)
                 (belongs-at (given .table) (given .sound) (ruleOf t n) (n-rule given values k n rest top) (before .place)
-                (omega (arith, before .earlier, b given values k n rest top .inside n (n-inside given values k n rest top) (n-applies given values k n rest top))))) .child
+                (omega (
+                  arith,
+                  before .earlier,
+                  balanced-at given values k n rest top .inside n (n-inside given values k n rest top)
+                      (n-applies given values k n rest top),
+                )))) .child
         go (isLeave v one h e d) =
             handed-down given values k n rest top (suc v) x (omega arith)
             (omega (
               arith,
               done-leave (given .table) (given .sound) (ruleOf t n) (n-rule given values k n rest top) (word (places given values k) n) (before .place) v
-                  (b given values k n rest top .inside n (n-inside given values k n rest top) (n-applies given values k n rest top)) (before .earlier) (at-place (leave v) d),
+                  (balanced-at given values k n rest top .inside n (n-inside given values k n rest top) (n-applies given values k n rest top))
+                  (before .earlier) (at-place (leave v) d),
             ))
             (makes-leave g p (ruleOf t n) v x (makes-at (leave v) d))
         go (isNone h d) = absurd (makes-none g p (ruleOf t n) x (makes-at none d))
@@ -84,7 +92,6 @@ module _ {g p t : List ℕ} {l : ℕ} (given : RunGiven g p t l) (values : List 
       → j < arguments g (ruleOf t n) f
       → T (not (appliesRule t (nodeAt t n (position (argument g (ruleOf t n) f j)))))
       ⊎ ComputedBefore g p t values k (cell t n (argument g (ruleOf t n) f j))
-  unfolding places
   after-arguments k n o f j w h e s =
       let d : DefinedAt g t n o = computing-defined given values k n o w in
       let r : ruleOf t n < rules g = rule-known given n (d .inside) (d .applies) in

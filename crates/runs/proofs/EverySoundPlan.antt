@@ -11,6 +11,7 @@ use lib.IntN.{ℤ}
 use lib.ListN.{length}
 use Rattle.basics.specs.Lists.{word}
 use Rattle.basics.proofs.TestLaws.{below-or-not}
+use Rattle.grammar.specs.Limits.{longestSequence}
 use Rattle.grammar.specs.declared.Verdict.the-variants.{Good}
 use Rattle.grammar.specs.Table.{rules, attributes, functions, target, argument, arguments, position}
 use Rattle.grammar.specs.Reading.{readTable}
@@ -131,8 +132,8 @@ module _ (g p t : List ℕ) (values : List ℤ) (good : readTable g ≡ Good) (s
       let a : ruleOf t n < rules g = given .tree .ruleKnown n (top-node k n rest e .0) (top-node k n rest e .1) in
       sound .rule (ruleOf t n) (lt→ltb (ruleOf t n) (rules g) a) .nothingElse _ (top-goes-on k n rest e)
 
-  -- the total is at most 111 actions a node
-  pub total-fits : total p t ≤ 111 * nodes t
+  -- the total is at most as many actions a node as a sequence has room for
+  pub total-fits : total p t ≤ longestSequence * nodes t
   total-fits = total-bound given
 
   -- no node stands on the stack twice

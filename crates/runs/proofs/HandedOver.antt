@@ -43,12 +43,11 @@ use Rattle.runs.proofs.Moments.{earlier}
 use Rattle.runs.proofs.ComputedOnce.{balanced-at, top-computing}
 
 module _ {g p t : List ℕ} {l : ℕ} (given : RunGiven g p t l) (values : List ℤ) where
-  unfoldable pub places : ℕ → List ℕ
+  abbrev pub places : ℕ → List ℕ
   places k = machineAt g p t values k .places
 
   -- a compute that node m has passed
   pub passed : (k m j o : ℕ) → j < word (places k) m → decode (actionAt p (ruleOf t m) j) ≡ compute o → ComputedBefore g p t values k (cell t m o)
-  unfolding places
   passed k m j o h e =
       let w = earlier given values k m j h in
       record {
@@ -76,8 +75,7 @@ module _ {g p t : List ℕ} {l : ℕ} (given : RunGiven g p t l) (values : List 
   same-class r o s q e d = ap₂ (λ (x a : ℕ). inherited g x a) e d
 
   module _ (k n : ℕ) (rest : List ℕ) (top : machineAt g p t values k .stack ≡ n ∷ rest) where
-    pub b : Balanced g p t (n ∷ rest) (places k)
-    unfolding places
+    b : Balanced g p t (n ∷ rest) (places k)
     b = balanced-at given values k n rest top
 
     pub n-inside : n < nodes t

@@ -46,7 +46,7 @@ use Rattle.sequences.specs.Order.{sequenceOf}
 use Rattle.sequences.specs.Paper.{DoneBefore}
 use Rattle.sequences.proofs.ActionNumbers.{decode-compute, number-decode}
 use Rattle.sequences.proofs.ActionLaws.{ChildVisit, LeftLeave, belongs-compute, action-belongs, action-below}
-use Rattle.sequences.proofs.MakesLaws.{of-inherited, of-synthesized, makes-compute, compute-makes, visit-makes, leave-makes}
+use Rattle.sequences.proofs.MakesLaws.{of-inherited, of-synthesized, makes-compute, compute-made, visit-makes, leave-makes}
 use Rattle.grammar.proofs.OccurrenceLaws.{left-defining, child-defining}
 use Rattle.sequences.proofs.FollowsLaws.{compute-after}
 use Rattle.sequences.proofs.OrderlyRules.{Orderly, fits, arc-starts, setAt, set-low}
@@ -73,7 +73,7 @@ module _ (g ids s : List ℕ) (r : ℕ) where
       compute-maker a t = (
         a,
         compute-stands g ids s r h a t,
-        subst⁻¹ (λ (x : Action). T (makes g s r x a)) (decode-compute a (defining-fits g ids s r h a t)) (compute-makes g s r a t),
+        compute-made g s r a (defining-fits g ids s r h a t) t,
       )
 
       leave-maker : (a n : ℕ) → LeftLeave g s r n → T (inheritedOf g s r 0 (suc n) a) → Maker g s r a

@@ -1,6 +1,6 @@
 -- How deep an occurrence stands: how many occurrences have an EDP path to it. An arc leads deeper where EDP has no cycle, so an attribute of a
 -- higher set is less deep than all of the lower sets at its position. Assumes nothing.
-use Prim.Native.Nat.{ℕ, _*_, _-_, _≤_, _<_}
+use Prim.Native.Nat.{ℕ, _+_, _*_, _-_, _≤_, _<_}
 use mathlib.Core.Path.{_≡_, refl, sym, _∙_, subst⁻¹}
 use mathlib.Core.Logic.{⊎-elim}
 use mathlib.Core.Bool.{Bool}
@@ -28,11 +28,11 @@ module _ (g ids s : List ℕ) (r : ℕ) where
   deepAs : ℕ → ℕ → ℕ → ℕ → Bool
   deepAs i k d o = occurrence g r o and eqb (position o) i and leb (setAt g s r o) k and eqb (depth o) d
 
-  -- the least depth of the attributes at position i in sets up to k, 65 where there are none
+  -- the least depth of the attributes at position i in sets up to k, more than any where there are none
   pub low : ℕ → ℕ → ℕ
-  low i k = least 65 (λ d. some mostOccurrences (λ o. deepAs i k d o))
+  low i k = least (mostOccurrences + 1) (λ d. some mostOccurrences (λ o. deepAs i k d o))
 
-  -- the least depth is at most each depth, is one of them where it is below 65, and falls with more sets
+  -- the least depth is at most each depth, is one of them where it is not more than any, and falls with more sets
   deep-intro : (i k d o : ℕ) → T (occurrence g r o) → position o ≡ i → setAt g s r o ≤ k → depth o ≡ d → T (deepAs i k d o)
   unfolding deepAs
   deep-intro i k d o t p l e = and-intro _ _ t (and-intro _ _ (eq-T _ _ p) (and-intro _ _ (le→leb _ _ l) (eq-T _ _ e)))
@@ -42,7 +42,7 @@ module _ (g ids s : List ℕ) (r : ℕ) where
   low-at i k o h t p l =
       ⊎-elim
       (λ q.
-      absurd (least-is 65 (λ d. some mostOccurrences (λ o. deepAs i k d o)) .lowest (depth o) q
+      absurd (least-is (mostOccurrences + 1) (λ d. some mostOccurrences (λ o. deepAs i k d o)) .lowest (depth o) q
       (some-at mostOccurrences (λ p. deepAs i k (depth o) p) o h (deep-intro i k (depth o) o t p l refl))))
       (λ q. q) (below-or-not (depth o) (low i k))
 
@@ -55,11 +55,11 @@ module _ (g ids s : List ℕ) (r : ℕ) where
     set : setAt g s r which ≤ k
     depthIs : depth which ≡ low i k
 
-  low-find : (i k : ℕ) → low i k < 65 → Lowest i k
+  low-find : (i k : ℕ) → low i k < mostOccurrences + 1 → Lowest i k
   unfolding low deepAs
   low-find i k h =
       let w = some-find mostOccurrences (λ o. deepAs i k (low i k) o)
-      (least-is 65 (λ d. some mostOccurrences (λ o. deepAs i k d o)) .passes h) in
+      (least-is (mostOccurrences + 1) (λ d. some mostOccurrences (λ o. deepAs i k d o)) .passes h) in
       let u = and-right _ _ (w .2) in
       let v = and-right _ _ u in
       record {
@@ -71,9 +71,9 @@ module _ (g ids s : List ℕ) (r : ℕ) where
         depthIs = eqb→eq _ _ (and-right _ _ v);
       }
 
-  pub low-most : (i k : ℕ) → low i k ≤ 65
+  pub low-most : (i k : ℕ) → low i k ≤ mostOccurrences + 1
   unfolding low
-  low-most i k = least-is 65 (λ d. some mostOccurrences (λ o. deepAs i k d o)) .inside
+  low-most i k = least-is (mostOccurrences + 1) (λ d. some mostOccurrences (λ o. deepAs i k d o)) .inside
 
   pub low-falls : (i k l : ℕ) → k ≤ l → low i l ≤ low i k
   low-falls i k l h =
@@ -81,9 +81,9 @@ module _ (g ids s : List ℕ) (r : ℕ) where
       (λ q.
       let w : Lowest i k = low-find i k q in
       omega (arith, low-at i l (w .which) (w .fits) (w .occurs) (w .stands) (omega (arith, w .set)), w .depthIs))
-      (λ q. omega (arith, low-most i l)) (below-or-not (low i k) 65)
+      (λ q. omega (arith, low-most i l)) (below-or-not (low i k) (mostOccurrences + 1))
 
-  pub depth-most : (o : ℕ) → depth o ≤ 64
+  pub depth-most : (o : ℕ) → depth o ≤ mostOccurrences
   unfolding depth
   depth-most o = count-le mostOccurrences (λ p. edpPath g ids s r p o)
 
@@ -119,10 +119,10 @@ module _ (g ids s : List ℕ) (r : ℕ) where
         (higher-arc g ids s r o (w .which) t (w .occurs) (e ∙ sym (w .stands)) (subst⁻¹ (λ (j : ℕ). T (nonterminal g (symbolOf g r j))) e n)
         (omega (arith, w .set))) in
         omega (arith, w .depthIs))
-        (λ q. omega (arith, depth-most o)) (below-or-not (low i k) 65)
+        (λ q. omega (arith, depth-most o)) (below-or-not (low i k) (mostOccurrences + 1))
 
     -- nothing is in the sets up to 0
-    pub low-last : (n : ℕ) → n ≡ visits s (symbolOf g r 0) → 65 ≤ low 0 (2 * (visits s (symbolOf g r 0) - n))
+    pub low-last : (n : ℕ) → n ≡ visits s (symbolOf g r 0) → mostOccurrences + 1 ≤ low 0 (2 * (visits s (symbolOf g r 0) - n))
     low-last n e =
         ⊎-elim
         (λ q.
@@ -133,4 +133,4 @@ module _ (g ids s : List ℕ) (r : ℕ) where
           set-low g ids s r h (w .which) (w .occurs)
               (subst⁻¹ (λ (j : ℕ). T (nonterminal g (symbolOf g r j))) (w .stands) (left-nonterminal g ids s r h)),
         )))
-        (λ q. q) (below-or-not (low 0 (2 * (visits s (symbolOf g r 0) - n))) 65)
+        (λ q. q) (below-or-not (low 0 (2 * (visits s (symbolOf g r 0) - n))) (mostOccurrences + 1))

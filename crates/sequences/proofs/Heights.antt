@@ -145,7 +145,8 @@ module _ (g ids s : List ℕ) (r : ℕ) where
     goal-leave a b n earlier arc t e m differs =
         let v = inherited-of g s r 0 (suc n) b (makes-leave g s r n b t) in
         let u = arc-beside g ids s r h a b arc (λ q. T-not (inheritedAt g r b) (defining-left g r b q (v .0 .stands)) (v .1)) in
-        let set : setAt g s r b ≡ 2 * (visits s (symbolOf g r 0) + 1 - suc n) = set-inherited g ids s r h 0 (suc n) b (v .0) (left-nonterminal g ids s r h) (v .1) in
+        let set : setAt g s r b ≡ 2 * (visits s (symbolOf g r 0) + 1 - suc n) = set-inherited g ids s r h 0 (suc n) b (v .0)
+        (left-nonterminal g ids s r h) (v .1) in
         ⊎-elim
         (λ l.
         omega (

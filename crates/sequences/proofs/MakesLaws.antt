@@ -1,13 +1,15 @@
 -- What an action makes available, and what a visit or a leave takes along and hands over: the tests of the plan's words as facts, both ways.
 -- Assumes nothing.
-use Prim.Native.Nat.{ℕ, suc}
-use mathlib.Core.Path.{_≡_}
+use Prim.Native.Nat.{ℕ, suc, _<_}
+use mathlib.Core.Path.{_≡_, subst⁻¹}
 use mathlib.Core.Bool.{not}
 use mathlib.Core.List.{List}
 use lib.Dec.{T, eqb→eq, eqb-refl}
 use Rattle.basics.proofs.TestLaws.{and-intro, and-left, and-right, eq-T}
+use Rattle.grammar.specs.Limits.{mostOccurrences}
 use Rattle.grammar.specs.Table.{symbolOf, nonterminal, occurrence, inheritedAt, defining, position}
-use Rattle.sequences.specs.Actions.{compute, visit, leave, none, visitAt, inheritedOf, synthesizedOf, makes}
+use Rattle.sequences.specs.Actions.{Action, compute, visit, leave, none, decode, visitAt, inheritedOf, synthesizedOf, makes}
+use Rattle.sequences.proofs.ActionNumbers.{decode-compute}
 
 -- occurrence o is an attribute at position i, of visit n
 pub record OfVisit (g s : List ℕ) (r i n o : ℕ) : Type 0 where
@@ -58,6 +60,10 @@ module _ (g s : List ℕ) (r : ℕ) where
   pub compute-makes : (o : ℕ) → T (defining g r o) → T (makes g s r (compute o) o)
   unfolding makes
   compute-makes o t = and-intro _ _ t (eqb-refl o)
+
+  -- the compute is the action of its occurrence's number
+  pub compute-made : (o : ℕ) → o < mostOccurrences → T (defining g r o) → T (makes g s r (decode o) o)
+  compute-made o h t = subst⁻¹ (λ (x : Action). T (makes g s r x o)) (decode-compute o h) (compute-makes o t)
 
   -- a visit makes the child's synthesized attributes of that visit available
   pub makes-visit : (i n o : ℕ) → T (makes g s r (visit i n) o) → T (nonterminal g (symbolOf g r i)) × T (synthesizedOf g s r i n o)

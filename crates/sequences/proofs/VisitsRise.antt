@@ -67,7 +67,8 @@ module _ (g ids s : List ℕ) (r : ℕ) where
               (w .place, w .earlier, ap decode (w .standsThere) ∙ leave-number g ids s r h five n c)
 
       -- "visits to a child and leaves rise": visits of a child rise
-      pub visits-rise : (i m n j k : ℕ) → j < size g ids s r → k < size g ids s r → decode (standsAt g ids s r j) ≡ visit i m → decode (standsAt g ids s r k) ≡ visit i n → m < n
+      pub visits-rise : (i m n j k : ℕ) → j < size g ids s r → k < size g ids s r → decode (standsAt g ids s r j) ≡ visit i m
+          → decode (standsAt g ids s r k) ≡ visit i n → m < n
           → j < k
       visits-rise i m zero j k l q d e less = absurd (omega arith)
       visits-rise i m (suc n) j k l q d e less =
@@ -80,7 +81,8 @@ module _ (g ids s : List ℕ) (r : ℕ) where
               (λ v. omega (arith, same-place g ids s r j p l (omega arith) (d ∙ (ap (λ (x : ℕ). visit i x) v ∙ sym f)))) (below-suc m n less)
 
       -- leaves rise
-      pub leaves-rise : (m n j k : ℕ) → j < size g ids s r → k < size g ids s r → decode (standsAt g ids s r j) ≡ leave m → decode (standsAt g ids s r k) ≡ leave n → m < n
+      pub leaves-rise : (m n j k : ℕ) → j < size g ids s r → k < size g ids s r → decode (standsAt g ids s r j) ≡ leave m
+          → decode (standsAt g ids s r k) ≡ leave n → m < n
           → j < k
       leaves-rise m zero j k l q d e less = absurd (omega arith)
       leaves-rise m (suc n) j k l q d e less =

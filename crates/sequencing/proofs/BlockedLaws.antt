@@ -13,18 +13,19 @@ use Rattle.bits.specs.Bit.{hasb, remove, union, minus, lowest, First}
 use Rattle.bits.proofs.BitLaws.{bit-has}
 use Rattle.bits.proofs.MemberLaws.{none-left, union-cases, union-left, union-right, minus-both, both-minus}
 use Rattle.bits.proofs.RestLaws.{rest-of}
+use Rattle.grammar.specs.Limits.{mostOccurrences}
 use Rattle.remaining.proofs.MemberWalks.{was-left, gone, left-less}
 use Rattle.sequencing.specs.Blocked.{RowsClosed, Blocked}
 
 -- the rows of those that are done
 pub record Blocking (rows : List ℕ) (base waiting left blocked : ℕ) : Type 0 where
-  pub room : base + 64 ≤ length rows
+  pub room : base + mostOccurrences ≤ length rows
   pub closed : RowsClosed rows base
   pub within : (o : ℕ) → T (hasb o left) → T (hasb o waiting)
   pub by : (b : ℕ) → T (hasb b blocked) → (o : ℕ) × T (hasb o waiting) × T (hasb b (word rows (base + o)))
   pub all : (b o : ℕ) → T (hasb o waiting) → T (not (hasb o left)) → T (hasb b (word rows (base + o))) → T (hasb b blocked)
 
-pub blocking-start : (rows : List ℕ) (base waiting : ℕ) → (base + 64 ≤ length rows) × RowsClosed rows base → Blocking rows base waiting waiting 0
+pub blocking-start : (rows : List ℕ) (base waiting : ℕ) → (base + mostOccurrences ≤ length rows) × RowsClosed rows base → Blocking rows base waiting waiting 0
 blocking-start rows base waiting h =
     record {
       room = h .0;

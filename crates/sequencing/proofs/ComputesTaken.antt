@@ -1,6 +1,6 @@
 -- The lowest compute that nothing blocks is the next action: a compute is ready exactly where nothing blocks it, and every other action has a
 -- higher number. Assumes nothing.
-use Prim.Native.Nat.{ℕ, _*_, _<_}
+use Prim.Native.Nat.{ℕ, _<_}
 use mathlib.Core.Path.{_≡_, sym, subst, subst⁻¹}
 use mathlib.Core.Logic.{⊎-elim}
 use mathlib.Core.Bool.{Bool}
@@ -10,12 +10,13 @@ use lib.Dec.{T, T-not, not-T}
 use Rattle.bits.specs.Bit.{hasb, remove, minus, First}
 use Rattle.bits.proofs.MemberLaws.{none-left, has-not, has-other, minus-both, both-minus}
 use Rattle.basics.proofs.TestLaws.{same-or-not}
+use Rattle.grammar.specs.Limits.{rowWords}
 use Rattle.grammar.specs.Table.{defining}
 use Rattle.relations.specs.Computed.{idsOf}
 use Rattle.sequences.specs.Actions.{Action, compute, decode, makes}
 use Rattle.sequences.proofs.ActionNumbers.{decode-compute}
 use Rattle.sequences.proofs.ActionLaws.{belongs-compute, action-belongs}
-use Rattle.sequences.proofs.MakesLaws.{makes-compute, compute-makes}
+use Rattle.sequences.proofs.MakesLaws.{makes-compute, compute-made}
 use Rattle.sequencing.specs.Given.{RuleGiven}
 use Rattle.remaining.specs.Remaining.{remains}
 use Rattle.sequencing.specs.Going.{Going, Taken}
@@ -32,7 +33,7 @@ module _ (g s rows : List ℕ) (p r : ℕ) (given : RuleGiven g s rows p r) wher
     computed o h t =
         belongs-compute g s r o (action-belongs g s r o (compute o) (decode-compute o h) (going .actions o (left-compute c v l o h t)))
 
-    module _ (blocked : ℕ) (rule : Blocked rows (64 * r) w blocked) where
+    module _ (blocked : ℕ) (rule : Blocked rows (rowWords r) w blocked) where
       -- a compute is ready exactly where nothing blocks it
       unblocked : (o : ℕ) → o < 64 → T (hasb o c) → ActionReady g s r c v l o → T (hasb o (minus c blocked))
       unblocked o h t f =
@@ -40,7 +41,8 @@ module _ (g s rows : List ℕ) (p r : ℕ) (given : RuleGiven g s rows p r) wher
           (not-T (hasb o blocked)
           (λ u.
           let k = rule .by o u in
-          free-quiet g (idsOf g) s r (orderly-rule g s rows p r given) (five-visits g s rows p r given) (remains c v l) w going o (computed o h t) f (k .0) (k .1)
+          free-quiet g (idsOf g) s r (orderly-rule g s rows p r given) (five-visits g s rows p r given) (remains c v l) w going o
+          (computed o h t) f (k .0) (k .1)
           (subst (λ (x : Bool). T x) (row-path g s rows p r given (k .0) o (waiting-fits g s rows p r given c v l w going (k .0) (k .1)) h) (k .2))))
 
       ready-compute : (o : ℕ) → o < 64 → T (hasb o (minus c blocked)) → ActionReady g s r c v l o
@@ -72,8 +74,7 @@ module _ (g s rows : List ℕ) (p r : ℕ) (given : RuleGiven g s rows p r) wher
           ⊎-elim
           (λ q.
           absurd (n (subst⁻¹ (λ (y : ℕ). T (makes g s r (decode o) y)) q
-          (subst⁻¹ (λ (y : Action). T (makes g s r y o)) (decode-compute o (f .small))
-          (compute-makes g s r o (computed o (f .small) here))))))
+          (compute-made g s r o (f .small) (computed o (f .small) here)))))
           (λ q. subst⁻¹ (λ (y : Bool). T y) (has-other o x w q) t) (same-or-not x o))
         where
           here : T (hasb o c)

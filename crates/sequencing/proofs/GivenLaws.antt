@@ -1,6 +1,6 @@
 -- What is given of a rule, as its actions are taken one by one: its sets are orderly, its rows hold all paths and so are closed, and what waits is
 -- an occurrence. Assumes nothing.
-use Prim.Native.Nat.{ℕ, _+_, _*_, _%_, _≤_, _<_}
+use Prim.Native.Nat.{ℕ, _+_, _%_, _≤_, _<_}
 use mathlib.Core.Path.{_≡_, sym, _∙_, ap, subst, subst⁻¹}
 use mathlib.Core.Bool.{Bool}
 use mathlib.Core.List.{List}
@@ -11,6 +11,7 @@ use Rattle.bits.specs.Bit.{hasb}
 use Rattle.bits.proofs.CollectLaws.{collect-lt}
 use Rattle.bits.proofs.MemberLaws.{hasb-collect, hasb-below}
 use Rattle.basics.specs.Lists.{word}
+use Rattle.grammar.specs.Limits.{mostOccurrences, rowWords}
 use Rattle.grammar.specs.Table.{symbolOf, rules, position}
 use Rattle.relations.specs.Computed.{idsOf}
 use Rattle.sets.specs.Visits.{setNumber, visits}
@@ -61,11 +62,11 @@ module _ (g s rows : List ℕ) (p r : ℕ) (given : RuleGiven g s rows p r) wher
   symbol-is i = symbol-at-rule g r p (given .starts) i
 
   -- the rows hold the paths
-  pub row-path : (o b : ℕ) → o < 64 → b < 64 → hasb b (word rows (64 * r + o)) ≡ edpPath g (idsOf g) s r o b
+  pub row-path : (o b : ℕ) → o < mostOccurrences → b < mostOccurrences → hasb b (word rows (rowWords r + o)) ≡ edpPath g (idsOf g) s r o b
   unfolding edpPaths
   row-path o b h l =
       ap (λ (x : ℕ). hasb b x) (given .paths o h)
-      ∙ (hasb-collect 64 b _ l ∙ ap (λ (x : List ℕ). edpPath g (idsOf g) x r o b) (sym (given .sets)))
+      ∙ (hasb-collect mostOccurrences b _ l ∙ ap (λ (x : List ℕ). edpPath g (idsOf g) x r o b) (sym (given .sets)))
 
   pub set-from : (i o : ℕ) → position o ≡ i → setNumber s (symbolFrom g p i) (o % 8) ≡ setAt g s r o
   unfolding setAt
@@ -75,7 +76,7 @@ module _ (g s rows : List ℕ) (p r : ℕ) (given : RuleGiven g s rows p r) wher
   visits-from i = ap (λ (x : ℕ). visits s x) (symbol-is i)
 
   module _ (c v l w : ℕ) (going : Going g (idsOf g) s r (remains c v l) w) where
-    pub waiting-fits : (x : ℕ) → T (hasb x w) → x < 64
+    pub waiting-fits : (x : ℕ) → T (hasb x w) → x < mostOccurrences
     waiting-fits x t = fits g (idsOf g) s r orderly-rule x (waits-attribute g (idsOf g) s r orderly-rule five-visits (remains c v l) w going x t .occurs)
 
 -- The same as the code meets it.
@@ -83,26 +84,27 @@ module _ (g s rows : List ℕ) (p r : ℕ) where
   pub place-small : RuleGiven g s rows p r → p < 65536
   place-small given = omega (arith, given .starts, rule-fits g r (given .good) (omega (arith, given .counts)))
 
-  pub rows-room : RuleGiven g s rows p r → 64 * r + 64 ≤ length rows
+  pub rows-room : RuleGiven g s rows p r → rowWords r + mostOccurrences ≤ length rows
   rows-room given = omega (arith, given .room, given .counts)
 
   -- the rows hold all paths, so they are closed
-  pub rows-closed : RuleGiven g s rows p r → RowsClosed rows (64 * r)
+  pub rows-closed : RuleGiven g s rows p r → RowsClosed rows (rowWords r)
   rows-closed given o k b h t u =
-      let l : k < 64 = row-below o h k t in
-      let m : b < 64 = row-below k l b u in
+      let l : k < mostOccurrences = row-below o h k t in
+      let m : b < mostOccurrences = row-below k l b u in
       subst⁻¹ (λ (x : Bool). T x) (row-path g s rows p r given o b h m)
       (edp-path-exact g (given .good) s r (lt→ltb r (rules g) (given .counts)) o b .1
       (path-join (has-path o k h l t) (has-path k b l m u)))
     where
-      row-below : (o : ℕ) → o < 64 → (k : ℕ) → T (hasb k (word rows (64 * r + o))) → k < 64
+      row-below : (o : ℕ) → o < mostOccurrences → (k : ℕ) → T (hasb k (word rows (rowWords r + o))) → k < mostOccurrences
       row-below o h k t =
-          hasb-below 64 k _ (collect-lt 64 (λ b. edpPaths g (idsOf g) (setsOf g (idsOf g)) r o b)) (subst (λ (x : ℕ). T (hasb k x)) (given .paths o h) t)
+          hasb-below mostOccurrences k _ (collect-lt mostOccurrences (λ b. edpPaths g (idsOf g) (setsOf g (idsOf g)) r o b))
+          (subst (λ (x : ℕ). T (hasb k x)) (given .paths o h) t)
 
-      has-path : (o b : ℕ) → o < 64 → b < 64 → T (hasb b (word rows (64 * r + o))) → Path⁺ (EDP g (setNumber s) r) o b
+      has-path : (o b : ℕ) → o < mostOccurrences → b < mostOccurrences → T (hasb b (word rows (rowWords r + o))) → Path⁺ (EDP g (setNumber s) r) o b
       has-path o b h m t =
           edp-path-exact g (given .good) s r (lt→ltb r (rules g) (given .counts)) o b .0
           (subst (λ (x : Bool). T x) (row-path g s rows p r given o b h m) t)
 
-  pub rows-ready : RuleGiven g s rows p r → (64 * r + 64 ≤ length rows) × RowsClosed rows (64 * r)
+  pub rows-ready : RuleGiven g s rows p r → (rowWords r + mostOccurrences ≤ length rows) × RowsClosed rows (rowWords r)
   rows-ready given = (rows-room given, rows-closed given)

@@ -151,7 +151,8 @@ module _ (g s rows : List ℕ) (p r : ℕ) (given : RuleGiven g s rows p r) wher
                 omega (
                   arith,
                   left-side b t .last,
-                  visit-even g (idsOf g) s r (orderly-rule g s rows p r given) 0 (suc (b + 1)) o (left-nonterminal g (idsOf g) s r (orderly-rule g s rows p r given)) m,
+                  visit-even g (idsOf g) s r (orderly-rule g s rows p r given) 0 (suc (b + 1)) o
+                      (left-nonterminal g (idsOf g) s r (orderly-rule g s rows p r given)) m,
                 ))
                 (λ z.
                 T-not (hasb d 0) (none-left d)
@@ -211,7 +212,8 @@ module _ (g s rows : List ℕ) (p r : ℕ) (given : RuleGiven g s rows p r) wher
             (subst⁻¹ (λ (x : Bool). T x) (has-other b (b + 1) l (λ y. omega arith))
             (subst (λ (x : Bool). T x) (remains-leave c v l (b + 1))
             (subst (λ (a : ℕ). T (remains c v l a)) f
-            (later-leaves g (idsOf g) s r (orderly-rule g s rows p r given) (five-visits g s rows p r given) (remains c v l) w going (b + 1) (b + 2) (omega arith) (omega arith)
+            (later-leaves g (idsOf g) s r (orderly-rule g s rows p r given) (five-visits g s rows p r given) (remains c v l) w going (b + 1)
+            (b + 2) (omega arith) (omega arith)
             (record { first = omega arith; last = omega arith }) (subst (λ (a : ℕ). T (remains c v l a)) e (left-leave c v l b t)))))))))
             (λ k. omega (arith, left-side b t .last)) (below-or-not (b + 1) (visits s (symbolOf g r 0)))
 

@@ -45,14 +45,16 @@ module _ (g s rows : List ℕ) (p r : ℕ) (given : RuleGiven g s rows p r) wher
         let u = leave-ready-at g s p c v l w b t in
         let e : 128 + b ≡ 128 + (b + 1 - 1) = omega arith in
         subst⁻¹ (λ (a : ℕ). ActionReady g s r c v l a) e
-        (ready-leave g (idsOf g) s r (orderly-rule g s rows p r given) (five-visits g s rows p r given) (remains c v l) w going (b + 1) (left-side g s rows p r given c v l w going b (u .1)) (ready-next g s rows p r given c v l w going b (u .1) (u .2)))
+        (ready-leave g (idsOf g) s r (orderly-rule g s rows p r given) (five-visits g s rows p r given) (remains c v l) w going (b + 1)
+        (left-side g s rows p r given c v l w going b (u .1)) (ready-next g s rows p r given c v l w going b (u .1) (u .2)))
 
     pub ready-is-leave : (b : ℕ) → T (hasb b l) → ActionReady g s r c v l (128 + b) → T (hasb b (readyLeaves g s p c v l w))
     ready-is-leave b t f =
         let e : 128 + b ≡ 128 + (b + 1 - 1) = omega arith in
         leave-at-ready g s p c v l w b (leave-small g s rows p r given c v l w going b t) t
         (next-ready g s rows p r given c v l w going b t
-        (free-leave g (idsOf g) s r (orderly-rule g s rows p r given) (five-visits g s rows p r given) (remains c v l) w going (b + 1) (left-side g s rows p r given c v l w going b t) (subst (λ (a : ℕ). ActionReady g s r c v l a) e f)))
+        (free-leave g (idsOf g) s r (orderly-rule g s rows p r given) (five-visits g s rows p r given) (remains c v l) w going (b + 1)
+        (left-side g s rows p r given c v l w going b t) (subst (λ (a : ℕ). ActionReady g s r c v l a) e f)))
 
     -- where neither a compute nor a visit is ready, a leave is
     module _ (noCompute : (o : ℕ) → o < 64 → T (remains c v l o) → ActionReady g s r c v l o → ⊥)
@@ -106,7 +108,8 @@ module _ (g s rows : List ℕ) (p r : ℕ) (given : RuleGiven g s rows p r) wher
           lower a k t u (aLeave d e) =
               under-first _ b d f (omega arith)
               (ready-is-leave d
-              (subst (λ (x : Bool). T x) (remains-leave c v l d) (subst (λ (x : ℕ). T (remains c v l x)) e t)) (subst (λ (x : ℕ). ActionReady g s r c v l x) e u))
+              (subst (λ (x : Bool). T x) (remains-leave c v l d) (subst (λ (x : ℕ). T (remains c v l x)) e t))
+              (subst (λ (x : ℕ). ActionReady g s r c v l x) e u))
 
           down : (o : ℕ) → T (makes g s r (decode (128 + b)) o) → T (hasb o (handedDown g s p b))
           down o m =
@@ -118,14 +121,16 @@ module _ (g s rows : List ℕ) (p r : ℕ) (given : RuleGiven g s rows p r) wher
               at-down g s p b o (omega arith)
               (ap (λ (x : ℕ). setNumber s (symbolFrom g p 0) x) (sym z)
               ∙ (set-from g s rows p r given 0 o q
-              ∙ (visit-even g (idsOf g) s r (orderly-rule g s rows p r given) 0 (suc (b + 1)) o (left-nonterminal g (idsOf g) s r (orderly-rule g s rows p r given)) k
+              ∙ (visit-even g (idsOf g) s r (orderly-rule g s rows p r given) 0 (suc (b + 1)) o
+              (left-nonterminal g (idsOf g) s r (orderly-rule g s rows p r given)) k
               ∙ (ap (λ (x : ℕ). 2 * (visits s (symbolOf g r 0) + 1 - x)) n
               ∙ ap (λ (x : ℕ). 2 * (x + 1 - (b + 2))) (sym (visits-from g s rows p r given 0))))))
 
           of-down : (o : ℕ) → T (hasb o w) → T (hasb o (handedDown g s p b)) → T (makes g s r (decode (128 + b)) o)
           of-down o t u =
               let k = down-at g s p b o u in
-              let a : Attribute g r o = waits-attribute g (idsOf g) s r (orderly-rule g s rows p r given) (five-visits g s rows p r given) (remains c v l) w going o t in
+              let a : Attribute g r o = waits-attribute g (idsOf g) s r (orderly-rule g s rows p r given) (five-visits g s rows p r given)
+              (remains c v l) w going o t in
               let q : position o ≡ 0 = omega (arith, k .0) in
               let z : o % 8 ≡ o = omega (arith, k .0) in
               let n : b + 2 ≡ suc (b + 1) = omega arith in

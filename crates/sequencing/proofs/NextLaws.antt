@@ -1,6 +1,6 @@
 -- The next action as the code meets it: what each of the three sets answers is the action that the tie rule takes, and what is then left and
 -- waits is as it should be. Assumes nothing.
-use Prim.Native.Nat.{ℕ, _+_, _*_, _/_, _%_, _≤_, _<_}
+use Prim.Native.Nat.{ℕ, _+_, _/_, _%_, _≤_, _<_}
 use mathlib.Core.Path.{_≡_, sym, _∙_, subst, subst⁻¹}
 use mathlib.Core.Logic.{⊎-elim}
 use mathlib.Core.Bool.{Bool}
@@ -11,6 +11,7 @@ use lib.ListN.{length}
 use Rattle.bits.specs.Bit.{hasb, remove, minus, First}
 use Rattle.bits.proofs.MemberLaws.{none-left}
 use Rattle.basics.proofs.TestLaws.{below-or-not}
+use Rattle.grammar.specs.Limits.{rowWords}
 use Rattle.relations.specs.Computed.{idsOf}
 use Rattle.sets.specs.Visits.{visits}
 use Rattle.access.specs.ByPlace.{symbolFrom}
@@ -46,14 +47,14 @@ module _ (g s rows : List ℕ) (p r : ℕ) where
         (subst⁻¹ (λ (x : ℕ). Taken g (idsOf g) s r before a (remains d u m) x) (e .waitingAre) t))))
 
     pub next-compute : (blocked ready o action c′ v′ l′ w′ : ℕ) → RuleGiven g s rows p r → Going g (idsOf g) s r (remains c v l) w
-        → Blocked rows (64 * r) w blocked → ready ≡ minus c blocked → First ready o → Done action c′ v′ l′ w′ o (remove o c) v l (remove o w)
+        → Blocked rows (rowWords r) w blocked → ready ≡ minus c blocked → First ready o → Done action c′ v′ l′ w′ o (remove o c) v l (remove o w)
         → Taken g (idsOf g) s r (remains c v l) action (remains c′ v′ l′) w′
     next-compute blocked ready o action c′ v′ l′ w′ given going k e f d =
         done-taken action c′ v′ l′ w′ o (remove o c) v l (remove o w) d
         (take-compute g s rows p r given c v l w going blocked k o (subst (λ (x : ℕ). First x o) e f))
 
     pub next-visit : (down : List ℕ) (blocked ready calls b action c′ v′ l′ w′ : ℕ) → RuleGiven g s rows p r
-        → Going g (idsOf g) s r (remains c v l) w → Along g s p v down → Blocked rows (64 * r) w blocked → ready ≡ minus c blocked → ready ≡ 0
+        → Going g (idsOf g) s r (remains c v l) w → Along g s p v down → Blocked rows (rowWords r) w blocked → ready ≡ minus c blocked → ready ≡ 0
         → calls ≡ readyVisits down v w → First calls b → Done action c′ v′ l′ w′ (64 + b) c (remove b v) l (minus w (handedUp g s p b))
         → Taken g (idsOf g) s r (remains c v l) action (remains c′ v′ l′) w′
     next-visit down blocked ready calls b action c′ v′ l′ w′ given going along k e z q f d =
@@ -74,7 +75,7 @@ module _ (g s rows : List ℕ) (p r : ℕ) where
         omega (arith, left-side g s rows p r given c v l w going b t .last, visits-from g s rows p r given 0)
 
     pub next-leave : (down : List ℕ) (blocked ready calls leaves b action c′ v′ l′ w′ : ℕ) → RuleGiven g s rows p r
-        → Going g (idsOf g) s r (remains c v l) w → Along g s p v down → Blocked rows (64 * r) w blocked → ready ≡ minus c blocked → ready ≡ 0
+        → Going g (idsOf g) s r (remains c v l) w → Along g s p v down → Blocked rows (rowWords r) w blocked → ready ≡ minus c blocked → ready ≡ 0
         → calls ≡ readyVisits down v w → calls ≡ 0 → leaves ≡ readyLeaves g s p c v l w → First leaves b
         → Done action c′ v′ l′ w′ (128 + b) c v (remove b l) (minus w (handedDown g s p b))
         → Taken g (idsOf g) s r (remains c v l) action (remains c′ v′ l′) w′
@@ -86,7 +87,7 @@ module _ (g s rows : List ℕ) (p r : ℕ) where
     -- where nothing else is ready a leave is
     pub leave-ready-then : (down : List ℕ) (blocked ready calls leaves : ℕ) → RuleGiven g s rows p r
         → Going g (idsOf g) s r (remains c v l) w → 1 ≤ length (remaining (remains c v l)) → Along g s p v down
-        → Blocked rows (64 * r) w blocked → ready ≡ minus c blocked → ready ≡ 0 → calls ≡ readyVisits down v w → calls ≡ 0
+        → Blocked rows (rowWords r) w blocked → ready ≡ minus c blocked → ready ≡ 0 → calls ≡ readyVisits down v w → calls ≡ 0
         → leaves ≡ readyLeaves g s p c v l w → 0 < leaves
     leave-ready-then down blocked ready calls leaves given going some along k e z q n m =
         ⊎-elim (λ h. h)

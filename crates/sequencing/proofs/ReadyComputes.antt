@@ -19,13 +19,14 @@ use Rattle.order.specs.Computed.{edp, edpPath}
 use Rattle.sequences.specs.Actions.{Action, decode, inheritedOf, makes}
 use Rattle.sequences.specs.Follows.{follows, besides}
 use Rattle.sequences.proofs.ActionNumbers.{decode-compute}
-use Rattle.sequences.proofs.MakesLaws.{inherited-of, makes-compute}
+use Rattle.sequences.proofs.MakesLaws.{inherited-of, makes-compute, compute-made}
 use Rattle.grammar.proofs.OccurrenceLaws.{defining-left}
 use Rattle.sequences.proofs.FollowsLaws.{follows-cases, follows-linked, compute-after}
 use Rattle.sequences.proofs.OrderlyRules.{Orderly, fits, left-nonterminal, arc-starts, arc-beside, beside-down}
 use Rattle.sequences.proofs.AvailableFirst.{Maker, maker}
+use Rattle.sequences.proofs.SequenceLaws.{compute-stands}
 use Rattle.sequencing.specs.Going.{Going}
-use Rattle.sequencing.proofs.Makers.{Attribute, made-attribute, arc-goal, set-high, visit-even, first-unmade}
+use Rattle.sequencing.proofs.Makers.{Attribute, one-maker, made-attribute, arc-goal, set-high, visit-even, first-unmade}
 
 -- nothing that is left goes before a
 abbrev pub Free : List ℕ → List ℕ → List ℕ → ℕ → (ℕ → Bool) → ℕ → Type 0
@@ -40,6 +41,14 @@ module _ (g ids s : List ℕ) (r : ℕ) (h : Orderly g ids s r) (five : (x : ℕ
   -- what waits is an attribute of a nonterminal
   pub waits-attribute : (o : ℕ) → T (hasb o w) → Attribute g r o
   waits-attribute o t = let e = going .waits o t in made-attribute g ids s r h (e .0) o (going .actions (e .0) (e .1)) (e .2)
+
+  -- the compute of an occurrence that waits is left
+  pub waiting-left : (o : ℕ) → T (hasb o w) → T (defining g r o) → T (left o)
+  waiting-left o t d =
+      let e = going .waits o t in
+      subst (λ (x : ℕ). T (left x))
+      (one-maker g ids s r (e .0) o o (going .actions (e .0) (e .1)) (compute-stands g ids s r h o d) (e .2)
+      (compute-made g s r o (fits g ids s r h o (waits-attribute o t .occurs)) d)) (e .1)
 
   -- an arc into what is available comes from what is available
   back : (y z : ℕ) → T (edp g ids s r y z) → (T (hasb z w) → ⊥) → T (hasb y w) → ⊥

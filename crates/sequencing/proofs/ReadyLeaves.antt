@@ -14,7 +14,6 @@ use Rattle.grammar.specs.Table.{symbolOf, nonterminal, inheritedAt, defining, p
 use Rattle.sets.specs.Visits.{visits}
 use Rattle.sequences.specs.Actions.{Action, leave, numberOf, decode, visitAt, inheritedOf, synthesizedOf, makes}
 use Rattle.sequences.specs.Follows.{besides, beforeLeave}
-use Rattle.sequences.proofs.ActionNumbers.{decode-compute}
 use Rattle.sequences.proofs.ActionLaws.{LeftLeave, ActionIs, computes, visitsChild, leaves, action-is}
 use Rattle.sequences.proofs.MakesLaws.{
   OfVisit,
@@ -24,17 +23,17 @@ use Rattle.sequences.proofs.MakesLaws.{
   makes-compute,
   makes-visit,
   makes-leave,
-  compute-makes,
+  compute-made,
 }
 use Rattle.grammar.proofs.AcceptedTable.{defining-occurs}
 use Rattle.grammar.proofs.OccurrenceLaws.{defining-left, left-defining}
 use Rattle.sequences.proofs.FollowsLaws.{LinkedByArc, follows-cases, leave-after-leave, leave-after-compute, last-leave-after}
 use Rattle.sequences.proofs.OrderlyRules.{Orderly, BesideArc, setAt, fits, set-low, left-nonterminal, arc-beside, beside-down}
-use Rattle.sequences.proofs.SequenceLaws.{compute-stands, leave-number, leave-stands}
+use Rattle.sequences.proofs.SequenceLaws.{leave-number, leave-stands}
 use Rattle.sequences.proofs.AvailableFirst.{visit-counts}
 use Rattle.sequencing.specs.Going.{Going}
-use Rattle.sequencing.proofs.Makers.{Attribute, one-maker, defining-attribute, made-attribute, odd-of-visit, visit-even, visit-odd}
-use Rattle.sequencing.proofs.ReadyComputes.{Free, waits-attribute}
+use Rattle.sequencing.proofs.Makers.{Attribute, defining-attribute, made-attribute, odd-of-visit, visit-even, visit-odd}
+use Rattle.sequencing.proofs.ReadyComputes.{Free, waits-attribute, waiting-left}
 
 -- a set not below the even one of the visit after n is of visit n at the latest, if odd, and of the one after n, if even
 odd-not-later : (v m n k : ℕ) → k ≡ 2 * (v + 1 - m) - 1 → 2 * (v + 1 - suc n) ≤ k → n ≤ v → 1 ≤ k → m ≤ n
@@ -78,11 +77,7 @@ module _ (g ids s : List ℕ) (r : ℕ) (h : Orderly g ids s r) (five : (x : ℕ
             let i : T (synthesizedOf g s r 0 (suc n) o) = odd-of-visit g ids s r h 0 (suc n) o a p (omega arith) (c .last) k in
             let d : T (defining g r o) = left-defining g r o (a .occurs) p (synthesized-of g s r 0 (suc n) o i .1) in
             let l : o < mostOccurrences = fits g ids s r h o (a .occurs) in
-            let e = going .waits o t in
-            let q : e .0 ≡ o =
-            one-maker g ids s r (e .0) o o (going .actions (e .0) (e .1)) (compute-stands g ids s r h o d) (e .2)
-            (subst⁻¹ (λ (x : Action). T (makes g s r x o)) (decode-compute o l) (compute-makes g s r o d)) in
-            f o (subst (λ (x : ℕ). T (left x)) q (e .1))
+            f o (waiting-left g ids s r h five left w going o t d)
             (leave-after-compute g ids s r (numberOf (leave (suc n))) (suc n) o (leave-number g ids s r h five (suc n) c) l i);
         last = λ q b t.
             ⊎-elim (λ e. sym e)
@@ -98,8 +93,7 @@ module _ (g ids s : List ℕ) (r : ℕ) (h : Orderly g ids s r) (five : (x : ℕ
     no-left-compute : (o : ℕ) → T (left o) → T (defining g r o) → position o ≡ 0 → visitAt g s r o ≤ n → ⊥
     no-left-compute o t d p l =
         let k : o < mostOccurrences = fits g ids s r h o (defining-occurs g r o d) in
-        let made : T (makes g s r (decode o) o) =
-        subst⁻¹ (λ (x : Action). T (makes g s r x o)) (decode-compute o k) (compute-makes g s r o d) in
+        let made : T (makes g s r (decode o) o) = compute-made g s r o k d in
         let a : Attribute g r o = made-attribute g ids s r h o o (going .actions o t) made in
         let v = visit-counts g ids s r h five o (a .occurs) (a .there) in
         let j : T (synthesizedOf g s r 0 (visitAt g s r o) o) =
@@ -190,7 +184,8 @@ module _ (g ids s : List ℕ) (r : ℕ) (h : Orderly g ids s r) (five : (x : ℕ
             ready .next m (x .first) (omega arith) (subst (λ (p : ℕ). T (left p)) e t)
 
         go : ActionIs g s r b
-            → (numberOf (leave n) ≡ b → ⊥) × (LinkedByArc g ids s r (decode (numberOf (leave n))) (decode b) ⊎ T (besides g s r (decode (numberOf (leave n))) (decode b)))
+            → (numberOf (leave n) ≡ b → ⊥) × (LinkedByArc g ids s r (decode (numberOf (leave n))) (decode b) ⊎ T
+            (besides g s r (decode (numberOf (leave n))) (decode b)))
             → ⊥
         go x e =
             ⊎-elim (λ u. linked u x (e .0))

@@ -1,7 +1,7 @@
 -- A visit is ready exactly where it is the next one of its child and none of the inherited attributes that it takes along waits: what goes before
 -- it stands at the child, in a set that is not lower. Assumes nothing.
 use Prim.Native.Nat.{ℕ, zero, suc, _+_, _*_, _-_, _≤_, _<_}
-use mathlib.Core.Path.{_≡_, refl, sym, _∙_, ap, subst, subst⁻¹}
+use mathlib.Core.Path.{_≡_, refl, sym, _∙_, ap, subst}
 use mathlib.Core.Logic.{_⊎_, ⊎-elim}
 use mathlib.Core.Bool.{Bool, not}
 use mathlib.Core.List.{List}
@@ -14,7 +14,6 @@ use Rattle.grammar.specs.Table.{symbolOf, inheritedAt, defining, position}
 use Rattle.sets.specs.Visits.{visits}
 use Rattle.sequences.specs.Actions.{Action, visit, numberOf, decode, visitAt, inheritedOf, synthesizedOf, makes}
 use Rattle.sequences.specs.Follows.{besides, beforeVisit}
-use Rattle.sequences.proofs.ActionNumbers.{decode-compute}
 use Rattle.sequences.proofs.ActionLaws.{ChildVisit, ActionIs, computes, visitsChild, leaves, action-is}
 use Rattle.sequences.proofs.MakesLaws.{
   OfVisit,
@@ -24,17 +23,17 @@ use Rattle.sequences.proofs.MakesLaws.{
   makes-compute,
   makes-visit,
   makes-leave,
-  compute-makes,
+  compute-made,
 }
 use Rattle.grammar.proofs.AcceptedTable.{defining-occurs}
 use Rattle.grammar.proofs.OccurrenceLaws.{defining-child, child-defining}
 use Rattle.sequences.proofs.FollowsLaws.{LinkedByArc, follows-cases, visit-after-visit, visit-after-compute}
 use Rattle.sequences.proofs.OrderlyRules.{Orderly, BesideArc, setAt, fits, arc-beside, beside-down}
-use Rattle.sequences.proofs.SequenceLaws.{compute-stands, visit-number, visit-stands}
+use Rattle.sequences.proofs.SequenceLaws.{visit-number, visit-stands}
 use Rattle.sequences.proofs.AvailableFirst.{visit-counts}
 use Rattle.sequencing.specs.Going.{Going}
-use Rattle.sequencing.proofs.Makers.{Attribute, one-maker, made-attribute, even-of-visit, visit-even, visit-odd}
-use Rattle.sequencing.proofs.ReadyComputes.{Free, waits-attribute}
+use Rattle.sequencing.proofs.Makers.{Attribute, made-attribute, even-of-visit, visit-even, visit-odd}
+use Rattle.sequencing.proofs.ReadyComputes.{Free, waits-attribute, waiting-left}
 
 -- the odd set of a visit is not higher than that of an earlier one
 not-later : (u v m n k : ℕ) → u ≡ v → k ≡ 2 * (u + 1 - m) - 1 → 2 * (v + 1 - n) - 1 ≤ k → n ≤ v → m ≤ n
@@ -86,11 +85,7 @@ module _ (g ids s : List ℕ) (r : ℕ) (h : Orderly g ids s r) (five : (x : ℕ
             let d : T (defining g r o) =
             child-defining g r o (a .occurs) (omega (arith, c .child)) (inherited-of g s r i (suc n) o i′ .1) in
             let l : o < mostOccurrences = fits g ids s r h o (a .occurs) in
-            let e = going .waits o t in
-            let q : e .0 ≡ o =
-            one-maker g ids s r (e .0) o o (going .actions (e .0) (e .1)) (compute-stands g ids s r h o d) (e .2)
-            (subst⁻¹ (λ (x : Action). T (makes g s r x o)) (decode-compute o l) (compute-makes g s r o d)) in
-            f o (subst (λ (x : ℕ). T (left x)) q (e .1))
+            f o (waiting-left g ids s r h five left w going o t d)
             (visit-after-compute g ids s r (numberOf (visit i (suc n))) i (suc n) o (visit-number g ids s r h five i (suc n) c) l i′);
       }
 
@@ -99,8 +94,7 @@ module _ (g ids s : List ℕ) (r : ℕ) (h : Orderly g ids s r) (five : (x : ℕ
     no-compute : (o : ℕ) → T (left o) → T (defining g r o) → position o ≡ i → visitAt g s r o ≤ n → ⊥
     no-compute o t d p l =
         let k : o < mostOccurrences = fits g ids s r h o (defining-occurs g r o d) in
-        let made : T (makes g s r (decode o) o) =
-        subst⁻¹ (λ (x : Action). T (makes g s r x o)) (decode-compute o k) (compute-makes g s r o d) in
+        let made : T (makes g s r (decode o) o) = compute-made g s r o k d in
         let a : Attribute g r o = made-attribute g ids s r h o o (going .actions o t) made in
         let u : T (inheritedAt g r o) = defining-child g r o d (omega (arith, c .child)) in
         let v = visit-counts g ids s r h five o (a .occurs) (a .there) in
@@ -172,7 +166,8 @@ module _ (g ids s : List ℕ) (r : ℕ) (h : Orderly g ids s r) (five : (x : ℕ
                 let k = makes-visit g s r j m (u .source) (subst (λ (x : Action). T (makes g s r x (u .source))) d (u .sourceMade)) in
                 let y : j ≡ i = sym (synthesized-of g s r j m (u .source) (k .1) .0 .stands) ∙ place in
                 let z = visit-odd g ids s r h j m (u .source) (k .0) (k .1) in
-                let lower : m ≤ n = not-later (visits s (symbolOf g r j)) (visits s (symbolOf g r i)) m n (setAt g s r (u .source)) (ap (λ (p : ℕ). visits s (symbolOf g r p)) y) z high (c .last) in
+                let lower : m ≤ n = not-later (visits s (symbolOf g r j)) (visits s (symbolOf g r i)) m n (setAt g s r (u .source))
+                (ap (λ (p : ℕ). visits s (symbolOf g r p)) y) z high (c .last) in
                 ⊎-elim
                 (λ p.
                 ready .next m (x .first) p
@@ -200,7 +195,8 @@ module _ (g ids s : List ℕ) (r : ℕ) (h : Orderly g ids s r) (five : (x : ℕ
         besides₂ (leaves m q e d x) u = subst (λ (x : Action). T (beforeVisit g s r i n x)) d u
 
         go : ActionIs g s r b
-            → (numberOf (visit i n) ≡ b → ⊥) × (LinkedByArc g ids s r (decode (numberOf (visit i n))) (decode b) ⊎ T (besides g s r (decode (numberOf (visit i n))) (decode b)))
+            → (numberOf (visit i n) ≡ b → ⊥) × (LinkedByArc g ids s r (decode (numberOf (visit i n))) (decode b) ⊎ T
+            (besides g s r (decode (numberOf (visit i n))) (decode b)))
             → ⊥
         go x e =
             ⊎-elim (λ u. linked u x (e .0))

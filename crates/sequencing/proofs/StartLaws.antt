@@ -9,6 +9,7 @@ use native.Mathlib.Omega.{arith}
 use native.Mathlib.Nat.{add-suc, add-zero}
 use lib.Dec.{T, ltb, ltb→lt, lt→ltb, leb→le, le→leb, T-not, not-T}
 use lib.ListN.{length}
+use lib.Pow.{ones-lt}
 use Rattle.bits.specs.Bit.{number, hasb, collect, below}
 use Rattle.bits.specs.Bit as bits
 use Rattle.bits.proofs.BitLaws.{bit-below, bit-has, number-hasb}
@@ -103,7 +104,7 @@ module _ (g s rows : List ℕ) (p r : ℕ) (given : RuleGiven g s rows p r) (c v
       omega (
         arith,
         visits-from g s rows p r given 0,
-        hasb-below (visits s (symbolFrom g p 0)) b (below (visits s (symbolFrom g p 0))) (lib.Pow.ones-lt (visits s (symbolFrom g p 0)))
+        hasb-below (visits s (symbolFrom g p 0)) b (below (visits s (symbolFrom g p 0))) (ones-lt (visits s (symbolFrom g p 0)))
             (subst (λ (x : ℕ). T (hasb b x)) (started .leavesAre) (subst (λ (x : Bool). T x) (remains-leave c v l b) t)),
       )
 

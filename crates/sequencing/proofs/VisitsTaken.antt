@@ -79,7 +79,8 @@ module _ (g s rows : List ℕ) (p r : ℕ) (given : RuleGiven g s rows p r) wher
           let e : 64 + b ≡ 64 + 8 * (b / 8) + (b % 8 + 1 - 1) = omega arith in
           at-ready g s p down v w b along h t
           (next-passes b h
-          (free-visit g (idsOf g) s r (orderly-rule g s rows p r given) (five-visits g s rows p r given) (remains c v l) w going (b / 8) (b % 8 + 1) (child b h t)
+          (free-visit g (idsOf g) s r (orderly-rule g s rows p r given) (five-visits g s rows p r given) (remains c v l) w going (b / 8)
+          (b % 8 + 1) (child b h t)
           (subst (λ (a : ℕ). ActionReady g s r c v l a) e f)))
 
       visit-is-ready : (b : ℕ) → T (hasb b (readyVisits down v w)) → ActionReady g s r c v l (64 + b)
@@ -87,7 +88,8 @@ module _ (g s rows : List ℕ) (p r : ℕ) (given : RuleGiven g s rows p r) wher
           let u = ready-at g s p down v w b along t in
           let e : 64 + b ≡ 64 + 8 * (b / 8) + (b % 8 + 1 - 1) = omega (arith, u .0) in
           subst⁻¹ (λ (a : ℕ). ActionReady g s r c v l a) e
-          (ready-visit g (idsOf g) s r (orderly-rule g s rows p r given) (five-visits g s rows p r given) (remains c v l) w going (b / 8) (b % 8 + 1) (child b (u .0) (u .1))
+          (ready-visit g (idsOf g) s r (orderly-rule g s rows p r given) (five-visits g s rows p r given) (remains c v l) w going (b / 8)
+          (b % 8 + 1) (child b (u .0) (u .1))
           (passes-next b (u .0) (u .2)))
 
       -- an action below that of visit b that is ready would be a compute, or a visit below b
@@ -131,8 +133,10 @@ module _ (g s rows : List ℕ) (p r : ℕ) (given : RuleGiven g s rows p r) wher
               subst⁻¹ (λ (y : Action). T (makes g s r y o)) (visit-is b (f .small))
               (visit-makes g s r (b / 8) (b % 8 + 1) o (visited .nonterminalThere)
               (odd-of-visit g (idsOf g) s r (orderly-rule g s rows p r given) (b / 8) (b % 8 + 1) o
-              (waits-attribute g (idsOf g) s r (orderly-rule g s rows p r given) (five-visits g s rows p r given) (remains c v l) w going o t) (k .0) (omega arith) (visited .last)
-              (sym (set-from g s rows p r given (b / 8) o (k .0)) ∙ (k .1 ∙ ap (λ (x : ℕ). 2 * (x + 1 - (b % 8 + 1)) - 1) (visits-from g s rows p r given (b / 8))))))
+              (waits-attribute g (idsOf g) s r (orderly-rule g s rows p r given) (five-visits g s rows p r given) (remains c v l) w going o t)
+              (k .0) (omega arith) (visited .last)
+              (sym (set-from g s rows p r given (b / 8) o (k .0)) ∙
+              (k .1 ∙ ap (λ (x : ℕ). 2 * (x + 1 - (b % 8 + 1)) - 1) (visits-from g s rows p r given (b / 8))))))
 
       pub no-visit-ready : readyVisits down v w ≡ 0 → (b : ℕ) → b < 64 → T (remains c v l (64 + b)) → ActionReady g s r c v l (64 + b) → ⊥
       no-visit-ready e b h t f =

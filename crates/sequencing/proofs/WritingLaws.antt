@@ -1,21 +1,22 @@
 -- The words of the sequence, action after action: what is written is the start of the construction, and what is left gives its rest.
 -- The block then goes into the plan word by word. Assumes nothing.
-use Prim.Native.Nat.{ℕ, suc, _+_, _*_, _-_, _≤_, _<_}
+use Prim.Native.Nat.{ℕ, suc, _+_, _-_, _≤_, _<_}
 use mathlib.Core.Path.{_≡_, refl, sym, _∙_, ap, ap₂, subst, subst⁻¹}
 use mathlib.Core.Bool.{Bool}
 use lib.Dec.{T}
-use mathlib.Core.List.{List, [], _∷_, _++_, append-assoc}
+use mathlib.Core.List.{List, [], _∷_, _++_, append-assoc, append-nil}
 use native.Mathlib.Omega.{arith}
 use native.Mathlib.Numerals.{add-one}
 use lib.ListN.{length, getD, set, take, drop, replicate, length-append}
 use lib.Seq.{set-at, take-all, paste, paste-zero, paste-suc, length-paste}
 use Rattle.basics.specs.Lists.{padded}
 use Rattle.bits.specs.Bit as bits
+use Rattle.grammar.specs.Limits.{ruleWords, longestSequence, planWords}
 use Rattle.relations.specs.Computed.{idsOf}
 use Rattle.sets.specs.Computed.{setsOf}
 use Rattle.access.specs.ByPlace.{Shaped, symbolFrom}
 use Rattle.access.proofs.Accessors.{shaped-rule}
-use Rattle.sequences.specs.Actions.{actionsOf}
+use Rattle.sequences.specs.Actions.{mostActions, actionsOf}
 use Rattle.sequences.specs.Follows.{follows}
 use Rattle.sequences.specs.Order.{order, sequenceOf}
 use Rattle.sequences.proofs.ActionLaws.{at-most-104}
@@ -40,12 +41,12 @@ module _ (g s rows : List ℕ) (p r : ℕ) where
   pub record Writing (n : ℕ) (down block : List ℕ) (c v l w j : ℕ) : Type 0 where
     pub along : Along g s p v down
     pub inside : j ≤ n
-    pub short : n ≤ 104
+    pub short : n ≤ mostActions
     pub left : length (remaining (remains c v l)) + j ≡ n
     pub going : Going g (idsOf g) s r (remains c v l) w
     pub out : List ℕ
     pub outLength : length out ≡ j
-    pub blockIs : block ≡ n ∷ (out ++ replicate (111 - j) 0)
+    pub blockIs : block ≡ n ∷ (out ++ replicate (longestSequence - j) 0)
     pub rest : sequenceOf g (idsOf g) s r
         ≡ out ++ order (λ a b. follows g (idsOf g) s r a b) (n - j) (remaining (remains c v l))
 
@@ -54,7 +55,7 @@ module _ (g s rows : List ℕ) (p r : ℕ) where
   children-start c v l w given started = children-left g s rows p r c v l w given (starts-going g s rows p r given c v l w started)
 
   pub writing-start : (c v l w n : ℕ) (down : List ℕ) → RuleGiven g s rows p r → Started g s p c v l w
-      → n ≡ bits.count 64 c + bits.count 64 v + bits.count 64 l → Along g s p v down → Writing n down (n ∷ replicate 111 0) c v l w 0
+      → n ≡ bits.count 64 c + bits.count 64 v + bits.count 64 l → Along g s p v down → Writing n down (n ∷ replicate longestSequence 0) c v l w 0
   unfolding sequenceOf
   writing-start c v l w n down given started e along =
       let f : n ≡ length (remaining (remains c v l)) = e ∙ starts-count g s rows p r given c v l w started in
@@ -91,7 +92,7 @@ module _ (g s rows : List ℕ) (p r : ℕ) where
   pub writing-turn : (n : ℕ) (down block : List ℕ) (c v l w j a c′ v′ l′ w′ : ℕ) → Writing n down block c v l w j → j < n
       → Taken g (idsOf g) s r (remains c v l) a (remains c′ v′ l′) w′ → Writing n down (set block (j + 1) a) c′ v′ l′ w′ (j + 1)
   writing-turn n down block c v l w j a c′ v′ l′ w′ k h t =
-      let more : 111 - j ≡ suc (111 - (j + 1)) = omega (arith, k .short) in
+      let more : longestSequence - j ≡ suc (longestSequence - (j + 1)) = omega (arith, k .short) in
       let steps : n - j ≡ suc (n - (j + 1)) = omega arith in
       record {
         along = still-along down c v l c′ v′ l′ (k .along) (t .within);
@@ -104,8 +105,8 @@ module _ (g s rows : List ℕ) (p r : ℕ) where
         blockIs =
             ap (λ (b : List ℕ). set b (j + 1) a) (k .blockIs)
             ∙ (ap (λ (m : ℕ). set (n ∷ (k .out ++ replicate m 0)) (j + 1) a) more
-            ∙ (set-at (n ∷ k .out) 0 (replicate (111 - (j + 1)) 0) a (j + 1) (omega (arith, k .outLength))
-            ∙ ap (λ (b : List ℕ). n ∷ b) (sym (append-assoc (k .out) (a ∷ []) (replicate (111 - (j + 1)) 0)))));
+            ∙ (set-at (n ∷ k .out) 0 (replicate (longestSequence - (j + 1)) 0) a (j + 1) (omega (arith, k .outLength))
+            ∙ ap (λ (b : List ℕ). n ∷ b) (sym (append-assoc (k .out) (a ∷ []) (replicate (longestSequence - (j + 1)) 0)))));
         rest =
             k .rest
             ∙ (ap (λ (m : ℕ). k .out ++ order (λ a b. follows g (idsOf g) s r a b) m (remaining (remains c v l))) steps
@@ -122,13 +123,13 @@ module _ (g s rows : List ℕ) (p r : ℕ) where
       let all : sequenceOf g (idsOf g) s r ≡ k .out =
       k .rest
       ∙ (ap (λ (m : ℕ). k .out ++ order (λ a b. follows g (idsOf g) s r a b) m (remaining (remains c v l))) z
-      ∙ mathlib.Core.List.append-nil (k .out)) in
+      ∙ append-nil (k .out)) in
       let f : length (k .out) ≡ n = k .outLength ∙ e in
-      let m : 111 - j ≡ 112 - suc (length (k .out)) = omega (arith, k .outLength) in
+      let m : longestSequence - j ≡ ruleWords - suc (length (k .out)) = omega (arith, k .outLength) in
       k .blockIs
       ∙ (ap (λ (m : ℕ). n ∷ (k .out ++ replicate m 0)) m
-      ∙ (ap (λ (x : ℕ). x ∷ (k .out ++ replicate (112 - suc (length (k .out))) 0)) (sym f)
-      ∙ ap (λ (b : List ℕ). padded 112 (length b ∷ b)) (sym all)))
+      ∙ (ap (λ (x : ℕ). x ∷ (k .out ++ replicate (ruleWords - suc (length (k .out))) 0)) (sym f)
+      ∙ ap (λ (b : List ℕ). padded ruleWords (length b ∷ b)) (sym all)))
 
 -- the block is copied
 pub record Copying (entry : List ℕ) (at : ℕ) (block plan : List ℕ) (j : ℕ) : Type 0 where
@@ -171,9 +172,9 @@ copying-finish entry at block plan j w h =
 
 -- the plan with the planner's own sequence
 pub sequence-written : (g s rows : List ℕ) (p r : ℕ) (plan block next : List ℕ) → RuleGiven g s rows p r
-    → block ≡ sequenceWords (sequenceOf g (idsOf g) s r) → next ≡ withBlock plan (256 + 112 * r) block
-    → next ≡ withBlock plan (256 + 112 * r) (sequenceWords (sequenceOf g (idsOf g) (setsOf g (idsOf g)) r))
+    → block ≡ sequenceWords (sequenceOf g (idsOf g) s r) → next ≡ withBlock plan (planWords r) block
+    → next ≡ withBlock plan (planWords r) (sequenceWords (sequenceOf g (idsOf g) (setsOf g (idsOf g)) r))
 sequence-written g s rows p r plan block next given e f =
     f
-    ∙ ap (withBlock plan (256 + 112 * r))
+    ∙ ap (withBlock plan (planWords r))
     (e ∙ ap (λ (x : List ℕ). sequenceWords (sequenceOf g (idsOf g) x r)) (given .sets))

@@ -5,11 +5,12 @@ use mathlib.Core.List.{List}
 use lib.Dec.{T}
 use Rattle.basics.specs.Lists.{word}
 use Rattle.bits.specs.Bit.{hasb}
+use Rattle.grammar.specs.Limits.{mostOccurrences}
 
 -- the rows of a rule are closed: what o leads to leads nowhere that o does not
 abbrev pub RowsClosed : List ℕ → ℕ → Type 0
 RowsClosed rows base =
-    (o k b : ℕ) → o < 64 → T (hasb k (word rows (base + o))) → T (hasb b (word rows (base + k))) → T (hasb b (word rows (base + o)))
+    (o k b : ℕ) → o < mostOccurrences → T (hasb k (word rows (base + o))) → T (hasb b (word rows (base + k))) → T (hasb b (word rows (base + o)))
 
 -- what is blocked are the members of the rows of what waits, and no others
 pub record Blocked (rows : List ℕ) (base waiting blocked : ℕ) : Type 0 where

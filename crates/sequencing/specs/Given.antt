@@ -1,11 +1,12 @@
 -- What the planner's visit-sequence of one rule is made from, and where it is written: "From 256 + 112r: length, actions, zeros."
 -- For proofs of the code: no demand rests on it. Assumes nothing.
-use Prim.Native.Nat.{ℕ, _+_, _*_, _≤_, _<_}
+use Prim.Native.Nat.{ℕ, _+_, _≤_, _<_}
 use mathlib.Core.Path.{_≡_}
 use mathlib.Core.List.{List, _++_}
 use lib.ListN.{length, take, drop}
 use Rattle.basics.specs.Lists.{word}
 use Rattle.bits.specs.Bit.{collect}
+use Rattle.grammar.specs.Limits.{mostOccurrences, rowWords}
 use Rattle.grammar.specs.declared.Verdict.the-variants.{Good}
 use Rattle.grammar.specs.Table.{rules, ruleAt}
 use Rattle.grammar.specs.Reading.{readTable}
@@ -24,8 +25,8 @@ pub record RuleGiven (g s rows : List ℕ) (p r : ℕ) : Type 0 where
   pub sets : s ≡ setsOf g (idsOf g)
   pub noncircular : CircularIDP g → ⊥
   pub ordered : Ordered g (setNumber (setsOf g (idsOf g)))
-  pub room : 64 * rules g ≤ length rows
-  pub paths : (o : ℕ) → o < 64 → word rows (64 * r + o) ≡ collect 64 (λ b. edpPaths g (idsOf g) (setsOf g (idsOf g)) r o b)
+  pub room : rowWords (rules g) ≤ length rows
+  pub paths : (o : ℕ) → o < mostOccurrences → word rows (rowWords r + o) ≡ collect mostOccurrences (λ b. edpPaths g (idsOf g) (setsOf g (idsOf g)) r o b)
 
 -- a plan with the words from one on replaced by a block, all others as they were
 unfoldable pub withBlock : List ℕ → ℕ → List ℕ → List ℕ

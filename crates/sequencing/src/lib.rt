@@ -1,5 +1,6 @@
 // The visit-sequence of one rule (000, section 6.3), written into the lent plan.
 // Of the actions that are left the lowest ready one is always next.
+use grammar::ROWS;
 use grammar::RULE_WORDS;
 use grammar::SET_WORDS;
 use remaining::State;
@@ -21,7 +22,7 @@ ghost use Rattle.sequencing.specs.Going as going;
 
 // The occurrences to which a path leads from one that waits. Where one that waits leads to another, the other blocks nothing more.
 fn blocked(rows: &[u64], base: usize, waiting: u64) -> u64
-    requires { ⌜ base + 64 ≤ length (now rows) ⌝ }
+    requires { ⌜ base + limits.mostOccurrences ≤ length (now rows) ⌝ }
     requires { ⌜ blocking.RowsClosed (now rows) base ⌝ }
     ensures { λ r. ⌜ blocking.Blocked (now (rows .entry)) base waiting r ⌝ }
 {
@@ -51,7 +52,7 @@ fn next(
     requires { ⌜ masks.Along (now words) (now sets) p (state .visits) (now down) ⌝ }
     ensures { λ s. ⌜ going.Taken (now (words .entry)) (idsOf (now (words .entry))) (now (sets .entry)) r (spec.remains (state .computes) (state .visits) (state .leaves)) (s .action) (spec.remains (s .state .computes) (s .state .visits) (s .state .leaves)) (s .state .waiting) ⌝ }
 {
-    let computes = bits::minus(state.computes, blocked(rows, 64 * r, state.waiting));
+    let computes = bits::minus(state.computes, blocked(rows, ROWS * r, state.waiting));
     if computes != 0 {
         return remaining::compute(state, bits::first(computes));
     }
