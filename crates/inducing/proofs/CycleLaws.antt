@@ -13,6 +13,8 @@ use Rattle.basics.specs.Tests.{some, least}
 use Rattle.basics.proofs.TestLaws.{
   least-is,
   least-one,
+  least-some,
+  some-least,
   some-at,
   some-find,
   chosen,
@@ -30,63 +32,76 @@ use Rattle.grammar.specs.Table.{rules, ruleCounts}
 use Rattle.order.specs.Computed.{hasCycle, circular, cycleRule, cycleOccurrence}
 use Rattle.closing.specs.Rows.{leads}
 use Rattle.plans.specs.Buffers.{over, rowsOf}
-use Rattle.inducing.specs.declared.Cycle.{Cycle}
 use Rattle.inducing.specs.declared.Cycle.the-variants.{At, Nothing}
-use Rattle.inducing.specs.Cycles.{lies, cyclic, cycleIn}
+use Rattle.inducing.specs.Cycles.{lies, cyclic, lowestCyclic, cycleIn}
 use Rattle.inducing.proofs.RowLaws.{over-leads}
 
--- the first n pass nothing
-abbrev pub None : ℕ → (ℕ → Bool) → Type 0
-None n f = (k : ℕ) → k < n → T (f k) → ⊥
+-- no occurrence of rule r before o lies on a cycle, and no rule before r is cyclic
+pub record NoneBefore (rows : List ℕ) (r o : ℕ) : Type 0 where
+  pub none : (p : ℕ) → p < o → T (lies rows r p) → ⊥
 
-pub none-yet : (f : ℕ → Bool) → None 0 f
-none-yet f k h t = omega arith
+pub record RulesBefore (rows : List ℕ) (r : ℕ) : Type 0 where
+  pub none : (q : ℕ) → q < r → T (cyclic rows q) → ⊥
 
-pub none-more : (n : ℕ) (f : ℕ → Bool) → None n f → (f n ≡ false) → None (n + 1) f
+none-more : (n : ℕ) (f : ℕ → Bool) → ((k : ℕ) → k < n → T (f k) → ⊥) → f n ≡ false → (k : ℕ) → k < n + 1 → T (f k) → ⊥
 none-more n f w e k h t =
     ⊎-elim (λ l. w k l t) (λ l. T-not (f n) (false-T (f n) e) (subst (λ (x : ℕ). T (f x)) l t)) (below-suc k n (omega arith))
 
 module _ (rows : List ℕ) where
   -- the test of one row, as the search meets it
-  pub lies-is : (r o : ℕ) (b : Bool) → b ≡ hasb o (getD rows (64 * r + o) 0) → b ≡ lies rows r o
+  lies-is : (r o : ℕ) (b : Bool) → b ≡ hasb o (getD rows (64 * r + o) 0) → b ≡ lies rows r o
   unfolding lies leads
   lies-is r o b e = e
 
-  -- a rule none of whose occurrences lies cyclic nowhere
-  cyclic-none : (r : ℕ) → None 64 (λ o. lies rows r o) → cyclic rows r ≡ false
-  unfolding cyclic
-  cyclic-none r w =
-      T-false (some 64 (λ o. lies rows r o))
-      (not-T (some 64 (λ o. lies rows r o)) (λ t. let k = some-find 64 (λ o. lies rows r o) t in w (k .0) (k .1) (k .2)))
+  pub row-start : (r : ℕ) → NoneBefore rows r 0
+  row-start r = record { none = λ p h t. omega arith }
 
-  pub rule-passed : (r o : ℕ) → None r (λ q. cyclic rows q) → None o (λ p. lies rows r p) → 64 ≤ o → None (r + 1) (λ q. cyclic rows q)
-  rule-passed r o w v h = none-more r (λ q. cyclic rows q) w (cyclic-none r (λ k l. v k (omega arith)))
+  -- the next occurrence does not lie on a cycle, or does, or there is none
+  pub row-passed : (r o : ℕ) (b : Bool) → NoneBefore rows r o → b ≡ hasb o (getD rows (64 * r + o) 0) → b ≡ false → NoneBefore rows r (o + 1)
+  row-passed r o b w e f = record { none = none-more o (λ p. lies rows r p) (w .none) (sym (lies-is r o b e) ∙ f) }
 
-  pub row-passed : (r o : ℕ) (b : Bool) → None o (λ p. lies rows r p) → b ≡ hasb o (getD rows (64 * r + o) 0) → b ≡ false
-      → None (o + 1) (λ p. lies rows r p)
-  row-passed r o b w e f = none-more o (λ p. lies rows r p) w (sym (lies-is r o b e) ∙ f)
+  pub row-found : (r o : ℕ) (b : Bool) → NoneBefore rows r o → o < 64 → b ≡ hasb o (getD rows (64 * r + o) 0) → b ≡ true → o ≡ lowestCyclic rows r
+  unfolding lowestCyclic
+  row-found r o b w l e f =
+      least-one 64 (λ p. lies rows r p) o (least 64 (λ p. lies rows r p))
+      (record { inside = omega arith; passes = λ _. true-T _ (sym (lies-is r o b e) ∙ f); lowest = w .none }) (least-is 64 (λ p. lies rows r p))
+
+  pub row-none : (r o : ℕ) → NoneBefore rows r o → 64 ≤ o → 64 ≡ lowestCyclic rows r
+  unfolding lowestCyclic
+  row-none r o w h =
+      least-one 64 (λ p. lies rows r p) 64 (least 64 (λ p. lies rows r p))
+      (record { inside = omega arith; passes = λ l. absurd (omega arith); lowest = λ k l t. w .none k (omega arith) t })
+      (least-is 64 (λ p. lies rows r p))
+
+  pub rules-start : RulesBefore rows 0
+  rules-start = record { none = λ q h t. omega arith }
+
+  -- a rule with no such occurrence is not cyclic
+  pub rule-passed : (r o : ℕ) → RulesBefore rows r → o ≡ lowestCyclic rows r → 64 ≤ o → RulesBefore rows (r + 1)
+  unfolding cyclic lowestCyclic
+  rule-passed r o w e h =
+      record {
+        none =
+            none-more r (λ q. cyclic rows q) (w .none)
+            (T-false (cyclic rows r) (not-T (cyclic rows r) (λ t. let l = least-some 64 (λ p. lies rows r p) t in omega arith)));
+      }
 
   -- nothing is found
-  pub search-none : (n r : ℕ) (found : Cycle) → None r (λ q. cyclic rows q) → n ≤ r → found ≡ Nothing → found ≡ cycleIn rows n
+  pub search-none : (n r : ℕ) → RulesBefore rows r → n ≤ r → Nothing ≡ cycleIn rows n
   unfolding cycleIn
-  search-none n r found w h e =
-      e ∙ sym (passed-over (some n (λ q. cyclic rows q)) (At (least n (λ q. cyclic rows q)) (least 64 (λ o. lies rows (least n (λ q. cyclic rows q)) o))) Nothing
-      (not-T (some n (λ q. cyclic rows q)) (λ t. let k = some-find n (λ q. cyclic rows q) t in w (k .0) (omega (arith, k .1)) (k .2))))
+  search-none n r w h =
+      sym (passed-over (some n (λ q. cyclic rows q)) (At (least n (λ q. cyclic rows q)) (least 64 (λ o. lies rows (least n (λ q. cyclic rows q)) o))) Nothing
+      (not-T (some n (λ q. cyclic rows q)) (λ t. let k = some-find n (λ q. cyclic rows q) t in w .none (k .0) (omega (arith, k .1)) (k .2))))
 
   -- the first is found
-  pub search-found : (n r o : ℕ) (b : Bool) → r < n → o < 64 → None r (λ q. cyclic rows q) → None o (λ p. lies rows r p)
-      → b ≡ hasb o (getD rows (64 * r + o) 0) → b ≡ true → At r o ≡ cycleIn rows n
-  unfolding cycleIn cyclic
-  search-found n r o b h l w v e f =
-      let here : T (lies rows r o) = true-T _ (sym (lies-is r o b e) ∙ f) in
-      let there : T (cyclic rows r) = some-at 64 (λ p. lies rows r p) o l here in
+  pub search-found : (n r o : ℕ) → RulesBefore rows r → r < n → o ≡ lowestCyclic rows r → o < 64 → At r o ≡ cycleIn rows n
+  unfolding cycleIn cyclic lowestCyclic
+  search-found n r o w h e l =
+      let there : T (cyclic rows r) = some-least 64 (λ p. lies rows r p) (omega arith) in
       let er : r ≡ least n (λ q. cyclic rows q) =
       least-one n (λ q. cyclic rows q) r (least n (λ q. cyclic rows q))
-      (record { inside = omega arith; passes = λ _. there; lowest = w }) (least-is n (λ q. cyclic rows q)) in
-      let eo : o ≡ least 64 (λ p. lies rows r p) =
-      least-one 64 (λ p. lies rows r p) o (least 64 (λ p. lies rows r p))
-      (record { inside = omega arith; passes = λ _. here; lowest = v }) (least-is 64 (λ p. lies rows r p)) in
-      ap (λ (x : ℕ). At r x) eo
+      (record { inside = omega arith; passes = λ _. there; lowest = w .none }) (least-is n (λ q. cyclic rows q)) in
+      ap (λ (x : ℕ). At r x) e
       ∙ (ap (λ (q : ℕ). At q (least 64 (λ p. lies rows q p))) er
       ∙ sym (chosen (some n (λ q. cyclic rows q)) (At (least n (λ q. cyclic rows q)) (least 64 (λ o. lies rows (least n (λ q. cyclic rows q)) o))) Nothing (some-at n (λ q. cyclic rows q) r h there)))
 

@@ -40,6 +40,11 @@ pub record ArcAt (i arcs c d : ℕ) : Type 0 where
   pub start : c ≡ 8 * i + number / 8
   pub end : d ≡ 8 * i + number % 8
 
+-- those of them that start at attribute a
+pub record ArcOut (i arcs a c d : ℕ) : Type 0 where
+  pub arc : ArcAt i arcs c d
+  pub from : arc .number / 8 ≡ a
+
 -- the ends of each of them are occurrences
 abbrev pub Ends : ℕ → ℕ → ℕ → Type 0
 Ends among i arcs = (k : ℕ) → T (hasb k arcs) → T (hasb (8 * i + k / 8) among) × T (hasb (8 * i + k % 8) among)
