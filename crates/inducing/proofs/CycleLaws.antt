@@ -10,30 +10,14 @@ use lib.Dec.{T, T-not, not-T, lt→ltb}
 use lib.ListN.{getD}
 use Rattle.bits.specs.Bit.{hasb}
 use Rattle.basics.specs.Tests.{some, least}
-use Rattle.basics.proofs.TestLaws.{
-  least-is,
-  least-one,
-  least-some,
-  some-least,
-  some-at,
-  some-find,
-  chosen,
-  passed-over,
-  true-T,
-  false-T,
-  T-false,
-  below-suc,
-  below-or-not,
-  and-intro,
-  and-right,
-  same-test,
-}
+use Rattle.basics.proofs.TestLaws.{least-is, least-one, some-at, some-find, chosen, passed-over, true-T, false-T, T-false, below-suc, below-or-not, and-intro, and-right, same-test}
 use Rattle.grammar.specs.Table.{rules, ruleCounts}
 use Rattle.order.specs.Computed.{hasCycle, circular, cycleRule, cycleOccurrence}
 use Rattle.closing.specs.Rows.{leads}
 use Rattle.plans.specs.Buffers.{over, rowsOf}
+use Rattle.inducing.specs.declared.Cycle.{Cycle}
 use Rattle.inducing.specs.declared.Cycle.the-variants.{At, Nothing}
-use Rattle.inducing.specs.Cycles.{lies, cyclic, lowestCyclic, cycleIn}
+use Rattle.inducing.specs.Cycles.{lies, cyclic, cycleIn}
 use Rattle.inducing.proofs.RowLaws.{over-leads}
 
 -- no occurrence of rule r before o lies on a cycle, and no rule before r is cyclic
@@ -56,52 +40,45 @@ module _ (rows : List ℕ) where
   pub row-start : (r : ℕ) → NoneBefore rows r 0
   row-start r = record { none = λ p h t. omega arith }
 
-  -- the next occurrence does not lie on a cycle, or does, or there is none
   pub row-passed : (r o : ℕ) (b : Bool) → NoneBefore rows r o → b ≡ hasb o (getD rows (64 * r + o) 0) → b ≡ false → NoneBefore rows r (o + 1)
   row-passed r o b w e f = record { none = none-more o (λ p. lies rows r p) (w .none) (sym (lies-is r o b e) ∙ f) }
-
-  pub row-found : (r o : ℕ) (b : Bool) → NoneBefore rows r o → o < 64 → b ≡ hasb o (getD rows (64 * r + o) 0) → b ≡ true → o ≡ lowestCyclic rows r
-  unfolding lowestCyclic
-  row-found r o b w l e f =
-      least-one 64 (λ p. lies rows r p) o (least 64 (λ p. lies rows r p))
-      (record { inside = omega arith; passes = λ _. true-T _ (sym (lies-is r o b e) ∙ f); lowest = w .none }) (least-is 64 (λ p. lies rows r p))
-
-  pub row-none : (r o : ℕ) → NoneBefore rows r o → 64 ≤ o → 64 ≡ lowestCyclic rows r
-  unfolding lowestCyclic
-  row-none r o w h =
-      least-one 64 (λ p. lies rows r p) 64 (least 64 (λ p. lies rows r p))
-      (record { inside = omega arith; passes = λ l. absurd (omega arith); lowest = λ k l t. w .none k (omega arith) t })
-      (least-is 64 (λ p. lies rows r p))
 
   pub rules-start : RulesBefore rows 0
   rules-start = record { none = λ q h t. omega arith }
 
   -- a rule with no such occurrence is not cyclic
-  pub rule-passed : (r o : ℕ) → RulesBefore rows r → o ≡ lowestCyclic rows r → 64 ≤ o → RulesBefore rows (r + 1)
-  unfolding cyclic lowestCyclic
-  rule-passed r o w e h =
+  pub rule-passed : (r o : ℕ) → RulesBefore rows r → NoneBefore rows r o → 64 ≤ o → RulesBefore rows (r + 1)
+  unfolding cyclic
+  rule-passed r o w v h =
       record {
         none =
             none-more r (λ q. cyclic rows q) (w .none)
-            (T-false (cyclic rows r) (not-T (cyclic rows r) (λ t. let l = least-some 64 (λ p. lies rows r p) t in omega arith)));
+            (T-false (cyclic rows r)
+            (not-T (cyclic rows r) (λ t. let k = some-find 64 (λ p. lies rows r p) t in v .none (k .0) (omega (arith, k .1)) (k .2))));
       }
 
   -- nothing is found
-  pub search-none : (n r : ℕ) → RulesBefore rows r → n ≤ r → Nothing ≡ cycleIn rows n
+  pub search-none : (n r : ℕ) (found : Cycle) → RulesBefore rows r → n ≤ r → found ≡ Nothing → found ≡ cycleIn rows n
   unfolding cycleIn
-  search-none n r w h =
-      sym (passed-over (some n (λ q. cyclic rows q)) (At (least n (λ q. cyclic rows q)) (least 64 (λ o. lies rows (least n (λ q. cyclic rows q)) o))) Nothing
+  search-none n r found w h e =
+      e
+      ∙ sym (passed-over (some n (λ q. cyclic rows q)) (At (least n (λ q. cyclic rows q)) (least 64 (λ o. lies rows (least n (λ q. cyclic rows q)) o))) Nothing
       (not-T (some n (λ q. cyclic rows q)) (λ t. let k = some-find n (λ q. cyclic rows q) t in w .none (k .0) (omega (arith, k .1)) (k .2))))
 
   -- the first is found
-  pub search-found : (n r o : ℕ) → RulesBefore rows r → r < n → o ≡ lowestCyclic rows r → o < 64 → At r o ≡ cycleIn rows n
-  unfolding cycleIn cyclic lowestCyclic
-  search-found n r o w h e l =
-      let there : T (cyclic rows r) = some-least 64 (λ p. lies rows r p) (omega arith) in
+  pub search-found : (n r o : ℕ) (b : Bool) → RulesBefore rows r → r < n → NoneBefore rows r o → o < 64 → b ≡ hasb o (getD rows (64 * r + o) 0)
+      → b ≡ true → At r o ≡ cycleIn rows n
+  unfolding cycleIn cyclic
+  search-found n r o b w h v l e f =
+      let here : T (lies rows r o) = true-T _ (sym (lies-is r o b e) ∙ f) in
+      let there : T (cyclic rows r) = some-at 64 (λ p. lies rows r p) o l here in
       let er : r ≡ least n (λ q. cyclic rows q) =
       least-one n (λ q. cyclic rows q) r (least n (λ q. cyclic rows q))
       (record { inside = omega arith; passes = λ _. there; lowest = w .none }) (least-is n (λ q. cyclic rows q)) in
-      ap (λ (x : ℕ). At r x) e
+      let eo : o ≡ least 64 (λ p. lies rows r p) =
+      least-one 64 (λ p. lies rows r p) o (least 64 (λ p. lies rows r p))
+      (record { inside = omega arith; passes = λ _. here; lowest = v .none }) (least-is 64 (λ p. lies rows r p)) in
+      ap (λ (x : ℕ). At r x) eo
       ∙ (ap (λ (q : ℕ). At q (least 64 (λ p. lies rows q p))) er
       ∙ sym (chosen (some n (λ q. cyclic rows q)) (At (least n (λ q. cyclic rows q)) (least 64 (λ o. lies rows (least n (λ q. cyclic rows q)) o))) Nothing (some-at n (λ q. cyclic rows q) r h there)))
 

@@ -16,10 +16,6 @@ lies rows r o = leads rows (64 * r) o o
 unfoldable pub cyclic : List ℕ → ℕ → Bool
 cyclic rows r = some 64 (λ o. lies rows r o)
 
--- the lowest that does, or 64 where none does
-unfoldable pub lowestCyclic : List ℕ → ℕ → ℕ
-lowestCyclic rows r = least 64 (λ o. lies rows r o)
-
 -- the lowest rule of the first n, and its lowest occurrence, that lies on a cycle
 unfoldable pub cycleIn : List ℕ → ℕ → Cycle
 cycleIn rows n =

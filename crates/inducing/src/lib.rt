@@ -9,7 +9,7 @@ ghost use mathlib.Core.Path.{_≡_};
 ghost use Prim.Native.Nat.{_+_, _*_, _≤_, _<_};
 ghost use lib.ListN.{length};
 ghost use Rattle.closing.proofs.ClosedLaws.{Kept};
-ghost use Rattle.inducing.specs.Cycles.{lowestCyclic, cycleIn};
+ghost use Rattle.inducing.specs.Cycles.{cycleIn};
 ghost use Rattle.inducing.specs.Closes.{Between, Inside, Closes, ArcAt, ArcOut, Ends};
 ghost use Rattle.bits.specs.Bit as sets;
 ghost use Rattle.basics.specs.Lists.{word, padded};
@@ -31,31 +31,21 @@ pub enum Cycle {
     Nothing,
 }
 
-// The lowest occurrence of rule r that lies on a cycle, or 64 where none does.
-fn lowest_cyclic(rows: &[u64], r: usize) -> usize
-    requires { ⌜ (r < 64) × (64 * r + 64 ≤ length (now rows)) ⌝ }
-    ensures { λ o. ⌜ o ≡ lowestCyclic (now (rows .entry)) r ⌝ }
-{
-    for o in 0..ROWS {
-        if bits::has(rows[ROWS * r + o], o) {
-            return o;
-        }
-    }
-    ROWS
-}
-
 // The lowest-numbered rule, and in it the lowest occurrence, that lies on a cycle.
 pub fn find_cycle(rows: &[u64], rules: usize) -> Cycle
     requires { ⌜ (rules ≤ 64) × (64 * rules ≤ length (now rows)) ⌝ }
     ensures { λ r. ⌜ r ≡ cycleIn (now (rows .entry)) rules ⌝ }
 {
-    for r in 0..rules {
-        let o = lowest_cyclic(rows, r);
-        if o < ROWS {
-            return Cycle::At(r, o);
+    let mut found = Cycle::Nothing;
+    'search: for r in 0..rules {
+        for o in 0..ROWS {
+            if bits::has(rows[ROWS * r + o], o) {
+                found = Cycle::At(r, o);
+                break 'search;
+            }
         }
     }
-    Cycle::Nothing
+    found
 }
 
 // Adds the arcs from each member of `from` to each member of `to`: an addition looks at every row, so none is made where there are no arcs.
