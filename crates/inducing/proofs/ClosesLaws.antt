@@ -14,17 +14,8 @@ use Rattle.basics.specs.Lists.{word}
 use Rattle.basics.proofs.TestLaws.{tested, true-T, same-or-not, below-or-not, below-suc}
 use Rattle.relations.specs.Paper.{Path⁺}
 use Rattle.relations.proofs.PathLaws.{path-join, path-into, path-map}
-use Rattle.closing.specs.Rows.{leads, connected}
-use Rattle.closing.proofs.ClosedLaws.{
-  Kept,
-  Within,
-  connected-length,
-  connected-outside,
-  connected-keeps,
-  connected-arc,
-  connected-kept,
-  connected-below,
-}
+use Rattle.closing.specs.Rows.{leads, connected, Kept}
+use Rattle.closing.proofs.ClosedLaws.{Within, connected-length, connected-outside, connected-keeps, connected-arc, connected-kept, connected-below}
 use Rattle.closing.proofs.ConnectLaws.{some-member}
 use Rattle.closing.proofs.GatherLaws.{moved-forth, moved-back}
 use Rattle.inducing.specs.Closes.{Between, Inside, Step, Closes, ArcAt, ArcOut, Ends}
@@ -105,7 +96,7 @@ module _ (before : List ℕ) (base among : ℕ) where
       }
 
   -- arcs of which the others are there already
-  pub closes-more : (arc all : ℕ → ℕ → Type 0) (after : List ℕ) → Closes before base among arc after
+  closes-more : (arc all : ℕ → ℕ → Type 0) (after : List ℕ) → Closes before base among arc after
       → ((c d : ℕ) → all c d → ((c < 64) × T (leads before base c d)) ⊎ arc c d) → ((c d : ℕ) → arc c d → all c d) → Closes before base among all after
   closes-more arc all after w split right =
       record {
@@ -175,9 +166,9 @@ module _ (rows : List ℕ) (base i arcs a from to : ℕ) (m : to ≡ minus (rais
           ))
           (tested (hasb d (word rows (base + (8 * i + a)))))
 
-pub missing-set : (row i arcs a part all r : ℕ) → part ≡ field (8 * a) arcs → all ≡ raised (8 * i) part → r ≡ minus all row
+pub missing-set : (row i arcs a all r : ℕ) → all ≡ raised (8 * i) (field (8 * a) arcs) → r ≡ minus all row
     → r ≡ minus (raised (8 * i) (field (8 * a) arcs)) row
-missing-set row i arcs a part all r p q m = m ∙ ap (λ (n : ℕ). minus n row) (q ∙ ap (raised (8 * i)) p)
+missing-set row i arcs a all r q m = m ∙ ap (λ (n : ℕ). minus n row) q
 
 module _ (entry : List ℕ) (base among i arcs : ℕ) where
   pub induce-start : Kept entry base among → Closes entry base among (ArcFrom i arcs 0) entry

@@ -111,7 +111,7 @@ module _ (g : List ℕ) (paths : ℕ → ℕ → ℕ → Bool) (lent rows : List
       ∙ same-test _ _ (λ t. and-intro (ruleCounts g r) _ (lt→ltb r (rules g) h) t) (λ t. and-right (ruleCounts g r) _ t)
 
   -- the search over the rows of a grammar is the search that planning is defined by
-  pub cycle-is : cycleIn rows (rules g) ≡ cond (circular g paths) (At (cycleRule g paths) (cycleOccurrence g paths)) Nothing
+  cycle-is : cycleIn rows (rules g) ≡ cond (circular g paths) (At (cycleRule g paths) (cycleOccurrence g paths)) Nothing
   unfolding cycleIn circular cycleRule cycleOccurrence
   cycle-is =
       let er : least (rules g) (λ r. cyclic rows r) ≡ cycleRule g paths =

@@ -15,7 +15,7 @@ use Rattle.bits.proofs.MemberLaws.{hasb-below, none-left, insert-cases, insert-
 use Rattle.basics.specs.Lists.{word}
 use Rattle.basics.proofs.TestLaws.{below-suc}
 use Rattle.grammar.specs.Table.{argumentWords, functionAt, functionsAt}
-use Rattle.closing.proofs.ClosedLaws.{Kept}
+use Rattle.closing.specs.Rows.{Kept}
 use Rattle.inducing.specs.Closes.{Between, Inside, Closes}
 use Rattle.inducing.specs.Arcs.{argumentsAt, FunctionArc, Sources, ArgumentsSmall, RuleArc, FunctionFits, FunctionsFit}
 use Rattle.inducing.proofs.ClosesLaws.{single-has, single-only, closes-none, closes-then, closes-same}

@@ -4,7 +4,7 @@ use grammar::ROWS;
 ghost use mathlib.Core.Path.{_≡_};
 ghost use Prim.Native.Nat.{ℕ, _+_, _*_, _≤_, _<_};
 ghost use lib.ListN.{length};
-ghost use Rattle.closing.proofs.ClosedLaws.{Kept};
+ghost use Rattle.closing.specs.Rows.{Kept};
 ghost use Rattle.inducing.specs.Closes.{Closes};
 ghost use Rattle.basics.specs.Lists.{word};
 ghost use Rattle.grammar.specs.declared.Verdict.the-variants as verdict;

@@ -8,7 +8,7 @@ use grammar::ROWS;
 ghost use mathlib.Core.Path.{_≡_};
 ghost use Prim.Native.Nat.{_+_, _*_, _≤_, _<_};
 ghost use lib.ListN.{length};
-ghost use Rattle.closing.proofs.ClosedLaws.{Kept};
+ghost use Rattle.closing.specs.Rows.{Kept};
 ghost use Rattle.inducing.specs.Cycles.{cycleIn};
 ghost use Rattle.inducing.specs.Closes.{Between, Inside, Closes, ArcAt, ArcOut, Ends};
 ghost use Rattle.bits.specs.Bit as sets;
@@ -69,8 +69,7 @@ fn missing(row: u64, i: usize, arcs: u64, a: usize) -> u64
     requires { ⌜ (i < 8) × (a < 8) ⌝ }
     ensures { λ r. ⌜ r ≡ sets.minus (sets.raised (8 * i) (sets.field (8 * a) arcs)) row ⌝ }
 {
-    let ends = bits::field(arcs, 8 * a);
-    let targets = bits::raised(ends, 8 * i);
+    let targets = closing::moved(arcs, 8 * a, 8 * i);
     bits::minus(targets, row)
 }
 

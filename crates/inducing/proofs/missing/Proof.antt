@@ -1,21 +1,17 @@
--- The set is taken in three steps, and each is the operation that the contract names.
+-- The targets are the eight places of the attribute put to those of the position; what the row has of them is taken away.
 use borrow.Author.Needs.{needs}
-use Rattle.closing.proofs.GatherLaws.{field-fits}
 use Rattle.inducing.proofs.ClosesLaws.{missing-set}
 use Rattle.inducing.proofs.missing.Statement.{statement}
 use Rattle.inducing.proofs.missing.Tie as tie
 
-mul-field : tie.Need-mul-field
-mul-field c = search needs
+mul-moved : tie.Need-mul-moved
+mul-moved c = search needs
 
-field-requires : tie.Need-field-requires
-field-requires c κs = search needs
+mul-moved-2 : tie.Need-mul-moved-2
+mul-moved-2 c = search needs
 
-mul-raised : tie.Need-mul-raised
-mul-raised c = search needs
-
-raised-requires : tie.Need-raised-requires
-raised-requires c κs = (search field-fits, search needs)
+moved-requires : tie.Need-moved-requires
+moved-requires c κs = search needs
 
 minus-requires : tie.Need-minus-requires
 minus-requires c κs = search needs
@@ -24,5 +20,4 @@ returns : tie.Need-returns
 returns c = search missing-set
 
 pub missing-spec : {M : Type 1} → statement M
-missing-spec =
-    tie.close (tie.spec mul-field field-requires mul-raised raised-requires minus-requires returns)
+missing-spec = tie.close (tie.spec mul-moved mul-moved-2 moved-requires minus-requires returns)
