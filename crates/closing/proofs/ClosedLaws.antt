@@ -28,14 +28,7 @@ use Rattle.basics.proofs.TestLaws.{
   some-find,
 }
 use Rattle.basics.proofs.ListLaws.{length-tabulate, getD-tabulate}
-use Rattle.closing.specs.Rows.{leads, reaches, reachesSome, reachedFrom, connectedRow, rewritten, connected}
-
--- the rows of a rule: closed, and between its occurrences
-pub record Kept (rows : List ℕ) (base among : ℕ) : Type 0 where
-  pub room : base + 64 ≤ length rows
-  pub closed : (o m x : ℕ) → o < 64 → m < 64 → T (leads rows base o m) → T (leads rows base m x) → T (leads rows base o x)
-  pub from : (o x : ℕ) → o < 64 → T (leads rows base o x) → T (hasb o among)
-  pub to : (o x : ℕ) → o < 64 → T (leads rows base o x) → T (hasb x among)
+use Rattle.closing.specs.Rows.{leads, Kept, reaches, reachesSome, reachedFrom, connectedRow, rewritten, connected}
 
 -- every member of a set is one of another
 abbrev pub Within : ℕ → ℕ → Type 0

@@ -7,6 +7,7 @@ use mathlib.Core.Bool.{Bool}
 use mathlib.Core.List.{List}
 use native.Mathlib.Omega.{arith}
 use lib.Dec.{T, ltb, ltb→lt, lt→ltb}
+use lib.ListN.{getD}
 use lib.Pow.{shl-lt, pow-mono}
 use Rattle.bits.specs.Bit.{hasb, union, field, raised}
 use Rattle.bits.proofs.SetLaws.{union-lt}
@@ -107,14 +108,17 @@ module _ (rows : List ℕ) (base i : ℕ) where
       (part-back a k (omega (arith, ltb→lt (k / 8) (a + 1) (and-left _ _ v))) (and-right _ _ v)))
       (below-or-not (k / 8) a)))
 
--- The same as the loop meets it: the part is in a local, made in two steps.
-pub gather-turn : (rows : List ℕ) (base i a arcs bits part next : ℕ) → a < 8 → arcs ≡ arcsAt rows base i a
-    → bits ≡ field (8 * i) (word rows (base + 8 * i + a)) → part ≡ raised (8 * a) bits → next ≡ union arcs part → next ≡ arcsAt rows base i (a + 1)
-gather-turn rows base i a arcs bits part next h e f q n =
-    n ∙ (ap₂ union e (q ∙ ap (raised (8 * a)) f) ∙ gather-one rows base i a h)
+-- The same as the loop meets it.
+pub gather-turn : (rows : List ℕ) (base i a arcs part next count : ℕ) → arcs ≡ arcsAt rows base i a → a < count → count ≤ 8
+    → part ≡ raised (8 * a) (field (8 * i) (getD rows (base + 8 * i + a) 0)) → next ≡ union arcs part → next ≡ arcsAt rows base i (a + 1)
+gather-turn rows base i a arcs part next count e h l q n = n ∙ (ap₂ union e q ∙ gather-one rows base i a (omega arith))
 
+pub gather-end : (rows : List ℕ) (base i count arcs a : ℕ) → arcs ≡ arcsAt rows base i a → a ≤ count → count ≤ a → arcs ≡ arcsAt rows base i count
+gather-end rows base i count arcs a e h l = let f : a ≡ count = omega arith in e ∙ ap (λ (n : ℕ). arcsAt rows base i n) f
+
+-- eight places of a set are a small set, wherever they are put
 pub field-fits : (n s v : ℕ) → v ≡ field n s → v < 256
 field-fits n s v e = subst⁻¹ (λ (x : ℕ). x < 256) e (field-lt n s)
 
-pub gathered : (rows : List ℕ) (base i count arcs a : ℕ) → arcs ≡ arcsAt rows base i a → a ≡ count → arcs ≡ arcsAt rows base i count
-gathered rows base i count arcs a e f = e ∙ ap (λ (n : ℕ). arcsAt rows base i n) f
+pub moved-is : (set m n places r : ℕ) → places ≡ field m set → r ≡ raised n places → r ≡ raised n (field m set)
+moved-is set m n places r p q = q ∙ ap (raised n) p

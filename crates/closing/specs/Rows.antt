@@ -1,10 +1,10 @@
 -- The relation of one rule in 64 lent rows, from a word called base on: bit b of row o says that a path leads from o to b.
 -- The rows are kept closed: 000's addarctrans adds an arc and all that it joins, and here all arcs from one set to another are added
 -- together. For proofs of the code: no demand rests on it. Assumes nothing.
-use Prim.Native.Nat.{ℕ, _+_, _*_, _-_, _/_, _%_}
+use Prim.Native.Nat.{ℕ, _+_, _*_, _-_, _/_, _%_, _≤_, _<_}
 use mathlib.Core.Bool.{Bool, cond}
 use mathlib.Core.List.{List}
-use lib.Dec.{ltb, leb, eqb}
+use lib.Dec.{T, ltb, leb, eqb}
 use lib.ListN.{length}
 use Rattle.bits.specs.Bit.{hasb, union, collect}
 use Rattle.basics.specs.Tests.{_and_, _or_, some}
@@ -13,6 +13,13 @@ use Rattle.basics.specs.Lists.{word, tabulate}
 -- a path leads from o to b
 unfoldable pub leads : List ℕ → ℕ → ℕ → ℕ → Bool
 leads rows base o b = hasb b (word rows (base + o))
+
+-- the rows of a rule: closed, and between its occurrences
+pub record Kept (rows : List ℕ) (base among : ℕ) : Type 0 where
+  pub room : base + 64 ≤ length rows
+  pub closed : (o m x : ℕ) → o < 64 → m < 64 → T (leads rows base o m) → T (leads rows base m x) → T (leads rows base o x)
+  pub from : (o x : ℕ) → o < 64 → T (leads rows base o x) → T (hasb o among)
+  pub to : (o x : ℕ) → o < 64 → T (leads rows base o x) → T (hasb x among)
 
 -- o is a, or a path leads from o to a
 unfoldable pub reaches : List ℕ → ℕ → ℕ → ℕ → Bool

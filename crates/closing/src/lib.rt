@@ -3,7 +3,7 @@ ghost use mathlib.Core.Path.{_≡_};
 ghost use Prim.Native.Nat.{_+_, _≤_, _<_};
 ghost use mathlib.Core.Bool.{cond};
 ghost use lib.ListN.{length};
-ghost use Rattle.bits.specs.Bit.{union};
+ghost use Rattle.bits.specs.Bit.{union, field, raised};
 ghost use Rattle.closing.specs.Rows as spec;
 
 // The members of a set and all that they lead to.
@@ -46,6 +46,15 @@ pub fn connect(rows: &mut [u64], base: usize, among: u64, from: u64, to: u64)
     }
 }
 
+// The eight places of a set from number m on, put to those from n on.
+pub fn moved(set: u64, m: usize, n: usize) -> u64
+    requires { ⌜ (m ≤ 56) × (n ≤ 56) ⌝ }
+    ensures { λ r. ⌜ r ≡ raised n (field m set) ⌝ }
+{
+    let places = bits::field(set, m);
+    bits::raised(places, n)
+}
+
 // The arcs between the attributes at position i, one byte for each attribute that it leads from.
 pub fn arcs_at(rows: &[u64], base: usize, i: usize, count: usize) -> u64
     requires { ⌜ (base + 64 ≤ length (now rows)) × (i < 8) × (count ≤ 8) ⌝ }
@@ -53,8 +62,8 @@ pub fn arcs_at(rows: &[u64], base: usize, i: usize, count: usize) -> u64
 {
     let mut arcs = 0;
     for a in 0..count {
-        let row = rows[base + 8 * i + a];
-        arcs = bits::union(arcs, bits::raised(bits::field(row, 8 * i), 8 * a));
+        let part = moved(rows[base + 8 * i + a], 8 * i, 8 * a);
+        arcs = bits::union(arcs, part);
     }
     arcs
 }

@@ -32,8 +32,7 @@ use Rattle.access.specs.Offsets.{RuleOf}
 use Rattle.access.specs.ByPlace.{occurrencesAt}
 use Rattle.access.proofs.Accessors.{rule-starts}
 use Rattle.access.proofs.Same.{symbol-same}
-use Rattle.closing.specs.Rows.{leads}
-use Rattle.closing.proofs.ClosedLaws.{Kept}
+use Rattle.closing.specs.Rows.{leads, Kept}
 use Rattle.plans.specs.Buffers.{over, rowsOf}
 use Rattle.plans.specs.Answer.{idpPaths, edpPaths}
 use Rattle.inducing.specs.Closes.{Closes}

@@ -12,7 +12,7 @@ ghost use Rattle.grammar.specs.Limits.{rowWords};
 ghost use Rattle.grammar.specs.Reading.{readTable};
 ghost use Rattle.grammar.specs.Table as table;
 ghost use Rattle.access.specs.Offsets.{offsetsFor, RuleOf};
-ghost use Rattle.closing.proofs.ClosedLaws.{Kept};
+ghost use Rattle.closing.specs.Rows.{Kept};
 ghost use Rattle.inducing.specs.Closes.{Closes};
 ghost use Rattle.inducing.specs.Rules.{occurrencesOf};
 ghost use Rattle.relations.specs.Computed.{idsOf};

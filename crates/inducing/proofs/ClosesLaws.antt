@@ -14,20 +14,11 @@ use Rattle.basics.specs.Lists.{word}
 use Rattle.basics.proofs.TestLaws.{tested, true-T, same-or-not, below-or-not, below-suc}
 use Rattle.relations.specs.Paper.{Path⁺}
 use Rattle.relations.proofs.PathLaws.{path-join, path-into, path-map}
-use Rattle.closing.specs.Rows.{leads, connected}
-use Rattle.closing.proofs.ClosedLaws.{
-  Kept,
-  Within,
-  connected-length,
-  connected-outside,
-  connected-keeps,
-  connected-arc,
-  connected-kept,
-  connected-below,
-}
+use Rattle.closing.specs.Rows.{leads, connected, Kept}
+use Rattle.closing.proofs.ClosedLaws.{Within, connected-length, connected-outside, connected-keeps, connected-arc, connected-kept, connected-below}
 use Rattle.closing.proofs.ConnectLaws.{some-member}
 use Rattle.closing.proofs.GatherLaws.{moved-forth, moved-back}
-use Rattle.inducing.specs.Closes.{Between, Inside, Step, Closes, ArcAt, Ends}
+use Rattle.inducing.specs.Closes.{Between, Inside, Step, Closes, ArcAt, ArcOut, Ends}
 
 -- the one member of the set of i alone
 pub single-has : (i : ℕ) → T (hasb i (single i))
@@ -104,6 +95,19 @@ module _ (before : List ℕ) (base among : ℕ) where
             (λ f. Path⁺.one (inr (right c d f))) s) (w .sound o x h t);
       }
 
+  -- arcs of which the others are there already
+  closes-more : (arc all : ℕ → ℕ → Type 0) (after : List ℕ) → Closes before base among arc after
+      → ((c d : ℕ) → all c d → ((c < 64) × T (leads before base c d)) ⊎ arc c d) → ((c d : ℕ) → arc c d → all c d) → Closes before base among all after
+  closes-more arc all after w split right =
+      record {
+        size = w .size;
+        outside = w .outside;
+        kept = w .kept;
+        keeps = w .keeps;
+        has = λ c d e. ⊎-elim (λ f. w .keeps c d (f .0) (f .1)) (λ f. w .has c d f) (split c d e);
+        sound = λ o x h t. path-map (λ m n q. ⊎-elim (λ y. inl y) (λ y. inr (right m n y)) q) (w .sound o x h t);
+      }
+
   -- the same arcs by other words
   pub closes-same : (arc other : ℕ → ℕ → Type 0) (after : List ℕ) → Closes before base among arc after → ((c d : ℕ) → arc c d → other c d)
       → ((c d : ℕ) → other c d → arc c d) → Closes before base among other after
@@ -122,25 +126,17 @@ pub record ArcFrom (i arcs n c d : ℕ) : Type 0 where
   pub arc : ArcAt i arcs c d
   pub done : arc .number / 8 < n
 
--- the missing arcs from attribute a, as the loop has them
-module _ (rows : List ℕ) (base i arcs a part all from to : ℕ) (p : part ≡ field (8 * a) arcs) (q : all ≡ raised (8 * i) part)
-    (f : from ≡ single (8 * i + a)) (m : to ≡ minus all (getD rows (base + (8 * i + a)) 0)) where
-  all-is : all ≡ raised (8 * i) (field (8 * a) arcs)
-  all-is = q ∙ ap (raised (8 * i)) p
-
-  missing-arc : (c d : ℕ) → Between from to c d → ArcFrom i arcs (a + 1) c d
+-- the missing arcs from attribute a
+module _ (rows : List ℕ) (base i arcs a from to : ℕ) (m : to ≡ minus (raised (8 * i) (field (8 * a) arcs)) (getD rows (base + (8 * i + a)) 0))
+    (f : from ≡ single (8 * i + a)) where
+  missing-arc : (c d : ℕ) → Between from to c d → ArcOut i arcs a c d
   missing-arc c d s =
       let e : c ≡ 8 * i + a = single-only c (8 * i + a) (subst (λ (n : ℕ). T (hasb c n)) f (s .0)) in
-      let t = minus-both d all (word rows (base + (8 * i + a))) (subst (λ (n : ℕ). T (hasb d n)) m (s .1)) in
-      let u = moved-forth (8 * a) (8 * i) d arcs (subst (λ (n : ℕ). T (hasb d n)) all-is (t .0)) in
+      let t = minus-both d (raised (8 * i) (field (8 * a) arcs)) (word rows (base + (8 * i + a))) (subst (λ (n : ℕ). T (hasb d n)) m (s .1)) in
+      let u = moved-forth (8 * a) (8 * i) d arcs (t .0) in
       record {
-        arc = record {
-          number = 8 * a + (d - 8 * i);
-          member = u .2;
-          start = omega (arith, e, u .1);
-          end = omega (arith, u .0, u .1);
-        };
-        done = omega (arith, u .1);
+        arc = record { number = 8 * a + (d - 8 * i); member = u .2; start = omega (arith, e, u .1); end = omega (arith, u .0, u .1) };
+        from = omega (arith, u .1);
       }
 
   pub missing-inside : (among : ℕ) → Ends among i arcs → Inside among (Between from to)
@@ -149,39 +145,44 @@ module _ (rows : List ℕ) (base i arcs a part all from to : ℕ) (p : part ≡ 
       let t = ends (w .arc .number) (w .arc .member) in
       (subst⁻¹ (λ (o : ℕ). T (hasb o among)) (w .arc .start) (t .0), subst⁻¹ (λ (o : ℕ). T (hasb o among)) (w .arc .end) (t .1))
 
-  pub induce-turn : (entry : List ℕ) (among : ℕ) → Closes entry base among (ArcFrom i arcs a) rows → i < 8 → a < 8 → (after : List ℕ)
-      → Closes rows base among (Between from to) after → Closes entry base among (ArcFrom i arcs (a + 1)) after
+  -- with them every arc from that attribute is there
+  pub missing-closes : (among : ℕ) → i < 8 → a < 8 → (after : List ℕ) → Closes rows base among (Between from to) after
+      → Closes rows base among (ArcOut i arcs a) after
   unfolding leads
-  induce-turn entry among v hi ha after w =
-      closes-then entry base among rows after (ArcFrom i arcs a) (Between from to) (ArcFrom i arcs (a + 1)) v w split
-      (λ c d s. record { arc = s .arc; done = omega (arith, s .done) }) missing-arc
+  missing-closes among hi ha after w = closes-more rows base among (Between from to) (ArcOut i arcs a) after w split missing-arc
     where
-      here : (c d : ℕ) (s : ArcAt i arcs c d) → s .number / 8 ≡ a → ((c < 64) × T (leads rows base c d)) ⊎ Between from to c d
-      here c d s e =
-          let start : c ≡ 8 * i + a = omega (arith, s .start) in
-          let same : s .number ≡ 8 * a + (d - 8 * i) = omega (arith, s .end) in
+      split : (c d : ℕ) → ArcOut i arcs a c d → ((c < 64) × T (leads rows base c d)) ⊎ Between from to c d
+      split c d s =
+          let start : c ≡ 8 * i + a = omega (arith, s .arc .start, s .from) in
+          let same : s .arc .number ≡ 8 * a + (d - 8 * i) = omega (arith, s .arc .end, s .from) in
           ⊎-elim (λ t. inl (omega arith, subst⁻¹ (λ (o : ℕ). T (hasb d (word rows (base + o)))) start t))
           (λ t.
           inr (
-            subst⁻¹ (λ (n : ℕ). T (hasb c n)) f
-                (subst⁻¹ (λ (n : ℕ). T (hasb n (single (8 * i + a)))) start (single-has (8 * i + a))),
+            subst⁻¹ (λ (n : ℕ). T (hasb c n)) f (subst⁻¹ (λ (n : ℕ). T (hasb n (single (8 * i + a)))) start (single-has (8 * i + a))),
             subst⁻¹ (λ (n : ℕ). T (hasb d n)) m
-                (both-minus d all (word rows (base + (8 * i + a)))
-                (subst⁻¹ (λ (n : ℕ). T (hasb d n)) all-is
-                (moved-back (8 * a) (8 * i) d arcs (omega (arith, s .end)) (omega (arith, s .end))
-                (subst (λ (n : ℕ). T (hasb n arcs)) same (s .member)))) t),
+                (both-minus d (raised (8 * i) (field (8 * a) arcs)) (word rows (base + (8 * i + a)))
+                (moved-back (8 * a) (8 * i) d arcs (omega (arith, s .arc .end)) (omega (arith, s .arc .end))
+                (subst (λ (n : ℕ). T (hasb n arcs)) same (s .arc .member))) t),
           ))
           (tested (hasb d (word rows (base + (8 * i + a)))))
 
-      split : (c d : ℕ) → ArcFrom i arcs (a + 1) c d → ((c < 64) × T (leads rows base c d)) ⊎ Between from to c d
-      split c d s =
-          ⊎-elim
-          (λ l. inl (omega (arith, s .arc .start), v .has c d (record { arc = s .arc; done = l })))
-          (λ l. here c d (s .arc) l) (below-suc (s .arc .number / 8) a (omega (arith, s .done)))
+pub missing-set : (row i arcs a all r : ℕ) → all ≡ raised (8 * i) (field (8 * a) arcs) → r ≡ minus all row
+    → r ≡ minus (raised (8 * i) (field (8 * a) arcs)) row
+missing-set row i arcs a all r q m = m ∙ ap (λ (n : ℕ). minus n row) q
 
 module _ (entry : List ℕ) (base among i arcs : ℕ) where
   pub induce-start : Kept entry base among → Closes entry base among (ArcFrom i arcs 0) entry
   induce-start k = closes-none entry base among (ArcFrom i arcs 0) k (λ c d s. let h = s .done in omega arith)
+
+  -- the arcs from one attribute more
+  pub induce-turn : (rows after : List ℕ) (a : ℕ) → i < 8 → Closes entry base among (ArcFrom i arcs a) rows → a < 8
+      → Closes rows base among (ArcOut i arcs a) after → Closes entry base among (ArcFrom i arcs (a + 1)) after
+  induce-turn rows after a hi v ha w =
+      closes-then entry base among rows after (ArcFrom i arcs a) (ArcOut i arcs a) (ArcFrom i arcs (a + 1)) v w
+      (λ c d s.
+      ⊎-elim (λ l. inl (omega (arith, s .arc .start, l), v .has c d (record { arc = s .arc; done = l }))) (λ l. inr (record { arc = s .arc; from = l }))
+      (below-suc (s .arc .number / 8) a (omega (arith, s .done))))
+      (λ c d s. record { arc = s .arc; done = omega (arith, s .done) }) (λ c d s. record { arc = s .arc; done = omega (arith, s .from) })
 
   -- where no attribute from a on has arcs, all are there
   pub induce-early : (rows : List ℕ) (a limit : ℕ) → Closes entry base among (ArcFrom i arcs a) rows → limit ≡ single (8 * a) → arcs < limit

@@ -10,22 +10,7 @@ use lib.Dec.{T, T-not, not-T, lt→ltb}
 use lib.ListN.{getD}
 use Rattle.bits.specs.Bit.{hasb}
 use Rattle.basics.specs.Tests.{some, least}
-use Rattle.basics.proofs.TestLaws.{
-  least-is,
-  least-one,
-  some-at,
-  some-find,
-  chosen,
-  passed-over,
-  true-T,
-  false-T,
-  T-false,
-  below-suc,
-  below-or-not,
-  and-intro,
-  and-right,
-  same-test,
-}
+use Rattle.basics.proofs.TestLaws.{least-is, least-one, some-at, some-find, chosen, passed-over, true-T, false-T, T-false, below-suc, below-or-not, and-intro, and-right, same-test}
 use Rattle.grammar.specs.Table.{rules, ruleCounts}
 use Rattle.order.specs.Computed.{hasCycle, circular, cycleRule, cycleOccurrence}
 use Rattle.closing.specs.Rows.{leads}
@@ -35,57 +20,64 @@ use Rattle.inducing.specs.declared.Cycle.the-variants.{At, Nothing}
 use Rattle.inducing.specs.Cycles.{lies, cyclic, cycleIn}
 use Rattle.inducing.proofs.RowLaws.{over-leads}
 
--- the first n pass nothing
-abbrev pub None : ℕ → (ℕ → Bool) → Type 0
-None n f = (k : ℕ) → k < n → T (f k) → ⊥
+-- no occurrence of rule r before o lies on a cycle, and no rule before r is cyclic
+pub record NoneBefore (rows : List ℕ) (r o : ℕ) : Type 0 where
+  pub none : (p : ℕ) → p < o → T (lies rows r p) → ⊥
 
-pub none-yet : (f : ℕ → Bool) → None 0 f
-none-yet f k h t = omega arith
+pub record RulesBefore (rows : List ℕ) (r : ℕ) : Type 0 where
+  pub none : (q : ℕ) → q < r → T (cyclic rows q) → ⊥
 
-pub none-more : (n : ℕ) (f : ℕ → Bool) → None n f → (f n ≡ false) → None (n + 1) f
+none-more : (n : ℕ) (f : ℕ → Bool) → ((k : ℕ) → k < n → T (f k) → ⊥) → f n ≡ false → (k : ℕ) → k < n + 1 → T (f k) → ⊥
 none-more n f w e k h t =
     ⊎-elim (λ l. w k l t) (λ l. T-not (f n) (false-T (f n) e) (subst (λ (x : ℕ). T (f x)) l t)) (below-suc k n (omega arith))
 
 module _ (rows : List ℕ) where
   -- the test of one row, as the search meets it
-  pub lies-is : (r o : ℕ) (b : Bool) → b ≡ hasb o (getD rows (64 * r + o) 0) → b ≡ lies rows r o
+  lies-is : (r o : ℕ) (b : Bool) → b ≡ hasb o (getD rows (64 * r + o) 0) → b ≡ lies rows r o
   unfolding lies leads
   lies-is r o b e = e
 
-  -- a rule none of whose occurrences lies cyclic nowhere
-  cyclic-none : (r : ℕ) → None 64 (λ o. lies rows r o) → cyclic rows r ≡ false
+  pub row-start : (r : ℕ) → NoneBefore rows r 0
+  row-start r = record { none = λ p h t. omega arith }
+
+  pub row-passed : (r o : ℕ) (b : Bool) → NoneBefore rows r o → b ≡ hasb o (getD rows (64 * r + o) 0) → b ≡ false → NoneBefore rows r (o + 1)
+  row-passed r o b w e f = record { none = none-more o (λ p. lies rows r p) (w .none) (sym (lies-is r o b e) ∙ f) }
+
+  pub rules-start : RulesBefore rows 0
+  rules-start = record { none = λ q h t. omega arith }
+
+  -- a rule with no such occurrence is not cyclic
+  pub rule-passed : (r o : ℕ) → RulesBefore rows r → NoneBefore rows r o → 64 ≤ o → RulesBefore rows (r + 1)
   unfolding cyclic
-  cyclic-none r w =
-      T-false (some 64 (λ o. lies rows r o))
-      (not-T (some 64 (λ o. lies rows r o)) (λ t. let k = some-find 64 (λ o. lies rows r o) t in w (k .0) (k .1) (k .2)))
-
-  pub rule-passed : (r o : ℕ) → None r (λ q. cyclic rows q) → None o (λ p. lies rows r p) → 64 ≤ o → None (r + 1) (λ q. cyclic rows q)
-  rule-passed r o w v h = none-more r (λ q. cyclic rows q) w (cyclic-none r (λ k l. v k (omega arith)))
-
-  pub row-passed : (r o : ℕ) (b : Bool) → None o (λ p. lies rows r p) → b ≡ hasb o (getD rows (64 * r + o) 0) → b ≡ false
-      → None (o + 1) (λ p. lies rows r p)
-  row-passed r o b w e f = none-more o (λ p. lies rows r p) w (sym (lies-is r o b e) ∙ f)
+  rule-passed r o w v h =
+      record {
+        none =
+            none-more r (λ q. cyclic rows q) (w .none)
+            (T-false (cyclic rows r)
+            (not-T (cyclic rows r) (λ t. let k = some-find 64 (λ p. lies rows r p) t in v .none (k .0) (omega (arith, k .1)) (k .2))));
+      }
 
   -- nothing is found
-  pub search-none : (n r : ℕ) (found : Cycle) → None r (λ q. cyclic rows q) → n ≤ r → found ≡ Nothing → found ≡ cycleIn rows n
+  pub search-none : (n r : ℕ) (found : Cycle) → RulesBefore rows r → n ≤ r → found ≡ Nothing → found ≡ cycleIn rows n
   unfolding cycleIn
   search-none n r found w h e =
-      e ∙ sym (passed-over (some n (λ q. cyclic rows q)) (At (least n (λ q. cyclic rows q)) (least 64 (λ o. lies rows (least n (λ q. cyclic rows q)) o))) Nothing
-      (not-T (some n (λ q. cyclic rows q)) (λ t. let k = some-find n (λ q. cyclic rows q) t in w (k .0) (omega (arith, k .1)) (k .2))))
+      e
+      ∙ sym (passed-over (some n (λ q. cyclic rows q)) (At (least n (λ q. cyclic rows q)) (least 64 (λ o. lies rows (least n (λ q. cyclic rows q)) o))) Nothing
+      (not-T (some n (λ q. cyclic rows q)) (λ t. let k = some-find n (λ q. cyclic rows q) t in w .none (k .0) (omega (arith, k .1)) (k .2))))
 
   -- the first is found
-  pub search-found : (n r o : ℕ) (b : Bool) → r < n → o < 64 → None r (λ q. cyclic rows q) → None o (λ p. lies rows r p)
-      → b ≡ hasb o (getD rows (64 * r + o) 0) → b ≡ true → At r o ≡ cycleIn rows n
+  pub search-found : (n r o : ℕ) (b : Bool) → RulesBefore rows r → r < n → NoneBefore rows r o → o < 64 → b ≡ hasb o (getD rows (64 * r + o) 0)
+      → b ≡ true → At r o ≡ cycleIn rows n
   unfolding cycleIn cyclic
-  search-found n r o b h l w v e f =
+  search-found n r o b w h v l e f =
       let here : T (lies rows r o) = true-T _ (sym (lies-is r o b e) ∙ f) in
       let there : T (cyclic rows r) = some-at 64 (λ p. lies rows r p) o l here in
       let er : r ≡ least n (λ q. cyclic rows q) =
       least-one n (λ q. cyclic rows q) r (least n (λ q. cyclic rows q))
-      (record { inside = omega arith; passes = λ _. there; lowest = w }) (least-is n (λ q. cyclic rows q)) in
+      (record { inside = omega arith; passes = λ _. there; lowest = w .none }) (least-is n (λ q. cyclic rows q)) in
       let eo : o ≡ least 64 (λ p. lies rows r p) =
       least-one 64 (λ p. lies rows r p) o (least 64 (λ p. lies rows r p))
-      (record { inside = omega arith; passes = λ _. here; lowest = v }) (least-is 64 (λ p. lies rows r p)) in
+      (record { inside = omega arith; passes = λ _. here; lowest = v .none }) (least-is 64 (λ p. lies rows r p)) in
       ap (λ (x : ℕ). At r x) eo
       ∙ (ap (λ (q : ℕ). At q (least 64 (λ p. lies rows q p))) er
       ∙ sym (chosen (some n (λ q. cyclic rows q)) (At (least n (λ q. cyclic rows q)) (least 64 (λ o. lies rows (least n (λ q. cyclic rows q)) o))) Nothing (some-at n (λ q. cyclic rows q) r h there)))
@@ -119,7 +111,7 @@ module _ (g : List ℕ) (paths : ℕ → ℕ → ℕ → Bool) (lent rows : List
       ∙ same-test _ _ (λ t. and-intro (ruleCounts g r) _ (lt→ltb r (rules g) h) t) (λ t. and-right (ruleCounts g r) _ t)
 
   -- the search over the rows of a grammar is the search that planning is defined by
-  pub cycle-is : cycleIn rows (rules g) ≡ cond (circular g paths) (At (cycleRule g paths) (cycleOccurrence g paths)) Nothing
+  cycle-is : cycleIn rows (rules g) ≡ cond (circular g paths) (At (cycleRule g paths) (cycleOccurrence g paths)) Nothing
   unfolding cycleIn circular cycleRule cycleOccurrence
   cycle-is =
       let er : least (rules g) (λ r. cyclic rows r) ≡ cycleRule g paths =

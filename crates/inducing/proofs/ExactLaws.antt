@@ -149,14 +149,14 @@ module _ (g : List ℕ) (good : readTable g ≡ Good) where
     s-is = ids-unique g formed s s-state s-sound s-closed
 
     -- the state is IDS
-    pub state-is : ids ≡ padded 32 (idsOf g)
+    state-is : ids ≡ padded 32 (idsOf g)
     state-is =
         ext-getD 0 ids (padded 32 (idsOf g))
         (w .sized ∙ sym (length-padded 32 (idsOf g) (omega (arith, ids-state g .sized, formed .symbolsFit))))
         (λ x h. sym (s-word x) ∙ (ap (λ (t : List ℕ). word t x) s-is ∙ sym (padded-word 32 (idsOf g) x)))
 
     -- the rows hold the paths of IDP
-    pub rows-is : rows ≡ over (rowsOf g (idpPaths g (idsOf g))) entry
+    rows-is : rows ≡ over (rowsOf g (idpPaths g (idsOf g))) entry
     unfolding idpPaths
     rows-is =
         holds-rows g (λ r a b. T (idp g s r a b)) (λ r a b. IDP⁺ g r a b) rows computed entry (idpPaths g (idsOf g)) f

@@ -1,6 +1,6 @@
 -- The arcs of functions are added function by function, those from all arguments of one together.
 -- Assumes nothing.
-use Prim.Native.Nat.{ℕ, _+_, _^_, _≤_, _<_}
+use Prim.Native.Nat.{ℕ, _+_, _*_, _^_, _≤_, _<_}
 use mathlib.Core.Path.{_≡_, refl, sym, _∙_, ap, subst, subst⁻¹}
 use mathlib.Core.Logic.{inl, inr, ⊎-elim}
 use mathlib.Core.Bool.{Bool, cond}
@@ -15,9 +15,9 @@ use Rattle.bits.proofs.MemberLaws.{hasb-below, none-left, insert-cases, insert-
 use Rattle.basics.specs.Lists.{word}
 use Rattle.basics.proofs.TestLaws.{below-suc}
 use Rattle.grammar.specs.Table.{argumentWords, functionAt, functionsAt}
-use Rattle.closing.proofs.ClosedLaws.{Kept}
+use Rattle.closing.specs.Rows.{Kept}
 use Rattle.inducing.specs.Closes.{Between, Inside, Closes}
-use Rattle.inducing.specs.Arcs.{argumentsAt, FunctionArc, RuleArc, FunctionFits, FunctionsFit}
+use Rattle.inducing.specs.Arcs.{argumentsAt, FunctionArc, Sources, ArgumentsSmall, RuleArc, FunctionFits, FunctionsFit}
 use Rattle.inducing.proofs.ClosesLaws.{single-has, single-only, closes-none, closes-then, closes-same}
 
 -- how many arguments a function has, for a constant and for any other operation
@@ -38,14 +38,12 @@ module _ (g : List ℕ) (among f : ℕ) where
   pub target-small : among < 2 ^ 64 → FunctionFits g among f → (b : ℕ) → b ≡ getD g f 0 → b < 64
   target-small h w b e = omega (arith, hasb-below 64 (word g f) among h (w .targetFits))
 
-  pub argument-small : among < 2 ^ 64 → FunctionFits g among f → (j n a : ℕ) → j < n → n ≡ argumentsAt g f → a ≡ getD g (f + 2 + j) 0 → a < 64
-  argument-small h w j n a l m e =
-      omega (arith, hasb-below 64 (word g (f + 2 + j)) among h (w .argumentFits j (omega arith)))
+  pub arguments-small : among < 2 ^ 64 → FunctionFits g among f → ArgumentsSmall g f
+  arguments-small h w j l = hasb-below 64 (word g (f + 2 + j)) among h (w .argumentFits j l)
 
--- a set of the first n arguments of the function at word f: the sources of its arcs
-pub record Sources (g : List ℕ) (f n from : ℕ) : Type 0 where
-  pub has : (a b : ℕ) → FunctionArc g f n a b → T (hasb a from)
-  pub sound : (a : ℕ) → T (hasb a from) → FunctionArc g f n a (word g f)
+-- the next argument
+pub argument-small : (g : List ℕ) (f n j a : ℕ) → ArgumentsSmall g f → n ≡ argumentsAt g f → j < n → a ≡ getD g (f + 2 + j) 0 → a < 64
+argument-small g f n j a w e h q = omega (arith, w j (omega arith))
 
 module _ (g : List ℕ) (f : ℕ) where
   pub sources-start : Sources g f 0 0
@@ -76,15 +74,17 @@ module _ (g : List ℕ) (f : ℕ) where
             (insert-cases c a from (subst (λ (n : ℕ). T (hasb c n)) h t));
       }
 
+  pub sources-finish : (n j from : ℕ) → Sources g f j from → n ≡ argumentsAt g f → j ≤ n → n ≤ j → Sources g f (argumentsAt g f) from
+  sources-finish n j from w e h l = let q : j ≡ argumentsAt g f = omega arith in subst (λ (i : ℕ). Sources g f i from) q w
+
   -- the arcs from them to the target are those of the function
-  module _ (n j from target to : ℕ) (w : Sources g f j from) (h : j ≤ n) (l : n ≤ j) (m : n ≡ argumentsAt g f) (e : target ≡ getD g f 0)
-      (q : to ≡ single target) where
+  module _ (from target to : ℕ) (w : Sources g f (argumentsAt g f) from) (e : target ≡ getD g f 0) (q : to ≡ single target) where
     arc-forth : (a b : ℕ) → Between from to a b → FunctionArc g f (argumentsAt g f) a b
     arc-forth a b s =
         let v = w .sound a (s .0) in
         record {
           place = v .place;
-          placeFits = omega (arith, v .placeFits);
+          placeFits = v .placeFits;
           argument = v .argument;
           target = single-only b target (subst (λ (t : ℕ). T (hasb b t)) q (s .1)) ∙ e;
         }
@@ -101,46 +101,56 @@ module _ (g : List ℕ) (f : ℕ) where
     function-closes entry base among after v =
         closes-same entry base among (Between from to) (FunctionArc g f (argumentsAt g f)) after v arc-forth
         (λ a b s. (
-          w .has a b (record { place = s .place; placeFits = omega (arith, s .placeFits); argument = s .argument; target = s .target }),
+          w .has a b s,
           subst⁻¹ (λ (t : ℕ). T (hasb b t)) q
               (subst⁻¹ (λ (o : ℕ). T (hasb o (single target))) (s .target ∙ sym e) (single-has target)),
         ))
 
--- where the next function starts
-pub next-place : (g : List ℕ) (p k f next : ℕ) → f ≡ functionAt g p k → next ≡ f + 2 + argumentWords (getD g (f + 1) 0) → next ≡ functionAt g p (k + 1)
-unfolding functionAt
-next-place g p k f next e h =
-    h ∙ (ap (λ (q : ℕ). q + 2 + argumentWords (word g (q + 1))) e ∙ ap (functionAt g p) (sym (add-one k)))
+-- function k of the rule at word p starts at word f, and the arcs of those before it are added
+pub record FillingRule (g : List ℕ) (p : ℕ) (entry : List ℕ) (base among k f : ℕ) (rows : List ℕ) : Type 0 where
+  pub starts : f ≡ functionAt g p k
+  pub near : f ≤ 131075 + 6 * k
+  pub closes : Closes entry base among (RuleArc g p k) rows
 
 module _ (entry : List ℕ) (base among : ℕ) (g : List ℕ) (p : ℕ) where
-  pub rule-start : Kept entry base among → Closes entry base among (RuleArc g p 0) entry
-  rule-start k = closes-none entry base among (RuleArc g p 0) k (λ a b s. let h = s .functionFits in omega arith)
+  pub rule-start : (f : ℕ) → Kept entry base among → f ≡ functionAt g p 0 → f < 131075 → FillingRule g p entry base among 0 f entry
+  rule-start f k e h =
+      record {
+        starts = e;
+        near = omega arith;
+        closes = closes-none entry base among (RuleArc g p 0) k (λ a b s. let h = s .functionFits in omega arith);
+      }
 
-  pub rule-turn : (rows : List ℕ) (k n f : ℕ) (after : List ℕ) → Closes entry base among (RuleArc g p k) rows → among < 2 ^ 64 → FunctionsFit g p among
-      → k < n → n ≡ functionsAt g p → f ≡ functionAt g p k → Closes rows base among (FunctionArc g f (argumentsAt g f)) after
-      → Closes entry base among (RuleArc g p (k + 1)) after
-  rule-turn rows k n f after v h w l m e u =
-      closes-then entry base among rows after (RuleArc g p k) (FunctionArc g f (argumentsAt g f)) (RuleArc g p (k + 1)) v u
-      (λ c d s.
-      ⊎-elim
-      (λ q.
-      inl (
-        argument-small g among (functionAt g p (s .function)) h (w (s .function) (omega arith)) (s .arc .place)
-            (argumentsAt g (functionAt g p (s .function))) c (s .arc .placeFits) refl (s .arc .argument),
-        v .has c d (record { function = s .function; functionFits = q; arc = s .arc }),
-      ))
-      (λ q.
-      inr (subst⁻¹ (λ (i : ℕ). FunctionArc g i (argumentsAt g i) c d) e
-      (subst (λ (i : ℕ). FunctionArc g (functionAt g p i) (argumentsAt g (functionAt g p i)) c d) q (s .arc))))
-      (below-suc (s .function) k (omega (arith, s .functionFits))))
-      (λ c d s. record { function = s .function; functionFits = omega (arith, s .functionFits); arc = s .arc })
-      (λ c d s. record { function = k; functionFits = omega arith; arc = subst (λ (i : ℕ). FunctionArc g i (argumentsAt g i) c d) e s })
+  pub rule-turn : (rows : List ℕ) (k n f next : ℕ) (after : List ℕ) → FunctionsFit g p among → among < 2 ^ 64 → FillingRule g p entry base among k f rows
+      → n ≡ functionsAt g p → k < n → Closes rows base among (FunctionArc g f (argumentsAt g f)) after
+      → next ≡ f + 2 + argumentWords (getD g (f + 1) 0) → next ≤ f + 6 → FillingRule g p entry base among (k + 1) next after
+  unfolding functionAt
+  rule-turn rows k n f next after w fits v m l u q h =
+      record {
+        starts = q ∙ (ap (λ (i : ℕ). i + 2 + argumentWords (word g (i + 1))) (v .starts) ∙ ap (functionAt g p) (sym (add-one k)));
+        near = omega (arith, v .near);
+        closes = closes-then entry base among rows after (RuleArc g p k) (FunctionArc g f (argumentsAt g f)) (RuleArc g p (k + 1)) (v .closes) u
+            (λ c d s.
+            ⊎-elim
+            (λ i.
+            inl (
+              omega (arith, arguments-small g among (functionAt g p (s .function)) fits (w (s .function) (omega arith)) (s .arc .place) (s .arc .placeFits), s .arc .argument),
+              v .closes .has c d (record { function = s .function; functionFits = i; arc = s .arc }),
+            ))
+            (λ i.
+            inr (subst⁻¹ (λ (j : ℕ). FunctionArc g j (argumentsAt g j) c d) (v .starts)
+            (subst (λ (j : ℕ). FunctionArc g (functionAt g p j) (argumentsAt g (functionAt g p j)) c d) i (s .arc))))
+            (below-suc (s .function) k (omega (arith, s .functionFits))))
+            (λ c d s. record { function = s .function; functionFits = omega (arith, s .functionFits); arc = s .arc })
+            (λ c d s. record { function = k; functionFits = omega arith; arc = subst (λ (j : ℕ). FunctionArc g j (argumentsAt g j) c d) (v .starts) s });
+      }
 
-  pub rule-finish : (rows : List ℕ) (k n : ℕ) → Closes entry base among (RuleArc g p k) rows → k ≤ n → n ≤ k → n ≡ functionsAt g p
+  pub rule-finish : (rows : List ℕ) (k n f : ℕ) → FillingRule g p entry base among k f rows → n ≡ functionsAt g p → k ≤ n → n ≤ k
       → Closes entry base among (RuleArc g p (functionsAt g p)) rows
-  rule-finish rows k n v h l m =
-      let e : k ≡ functionsAt g p = omega arith in subst (λ (i : ℕ). Closes entry base among (RuleArc g p i) rows) e v
+  rule-finish rows k n f v m h l =
+      let e : k ≡ functionsAt g p = omega arith in subst (λ (i : ℕ). Closes entry base among (RuleArc g p i) rows) e (v .closes)
 
--- the function that is next speaks of occurrences
-pub function-fits : (g : List ℕ) (p among k n f : ℕ) → FunctionsFit g p among → k < n → n ≡ functionsAt g p → f ≡ functionAt g p k → FunctionFits g among f
-function-fits g p among k n f w l m e = subst⁻¹ (λ (i : ℕ). FunctionFits g among i) e (w k (omega arith))
+  -- the function that is next speaks of occurrences
+  pub function-fits : (rows : List ℕ) (k n f : ℕ) → FunctionsFit g p among → FillingRule g p entry base among k f rows → n ≡ functionsAt g p → k < n
+      → FunctionFits g among f
+  function-fits rows k n f w v m l = subst⁻¹ (λ (i : ℕ). FunctionFits g among i) (v .starts) (w k (omega arith))

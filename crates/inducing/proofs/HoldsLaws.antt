@@ -14,8 +14,7 @@ use Rattle.basics.proofs.TestLaws.{same-or-not, below-or-not, same-test}
 use Rattle.grammar.specs.Table.{rules}
 use Rattle.relations.specs.Paper.{Path⁺}
 use Rattle.relations.proofs.PathLaws.{path-map, path-closed}
-use Rattle.closing.specs.Rows.{leads}
-use Rattle.closing.proofs.ClosedLaws.{Kept}
+use Rattle.closing.specs.Rows.{leads, Kept}
 use Rattle.inducing.specs.Closes.{Closes}
 use Rattle.plans.specs.Buffers.{over, rowsOf}
 use Rattle.inducing.specs.Rules.{occurrencesOf, Holds, Frame}

@@ -20,8 +20,7 @@ use Rattle.relations.proofs.Least.{idp-paths, paths-idp}
 use Rattle.access.specs.Offsets.{RuleOf}
 use Rattle.access.specs.ByPlace.{occurrencesAt}
 use Rattle.access.proofs.Accessors.{rule-starts}
-use Rattle.closing.specs.Rows.{leads}
-use Rattle.closing.proofs.ClosedLaws.{Kept}
+use Rattle.closing.specs.Rows.{leads, Kept}
 use Rattle.inducing.specs.Closes.{Closes}
 use Rattle.inducing.specs.Arcs.{RuleArc}
 use Rattle.inducing.specs.Rules.{occurrencesOf, Holds, Frame, Filled}
@@ -31,12 +30,6 @@ use Rattle.inducing.proofs.HoldsLaws.{frame-none, frame-then, frame-tur
 
 pub idp-trans : (g : List ℕ) (r a b c : ℕ) → IDP⁺ g r a b → IDP⁺ g r b c → IDP⁺ g r a c
 idp-trans g r a b c p q = paths-idp g (path-join (idp-paths g p) (idp-paths g q))
-
--- the rows of the rule at word p
-pub kept-at : (g : List ℕ) (lower upper : ℕ → ℕ → ℕ → Type 0) (rows : List ℕ) (r p among : ℕ) → Holds g lower upper rows → r < rules g → p ≡ ruleAt g r
-    → among ≡ occurrencesAt g p → Kept rows (64 * r) among
-kept-at g lower upper rows r p among w h e a =
-    subst⁻¹ (λ (s : ℕ). Kept rows (64 * r) s) (a ∙ ap (occurrencesAt g) e) (w .kept r h)
 
 -- a set of arcs is added to the rows of the rule at word p, which is rule r
 pub closes-at : (g : List ℕ) (rows after : List ℕ) (r p among : ℕ) (arc : ℕ → ℕ → ℕ → Type 0) → p ≡ ruleAt g r → among ≡ occurrencesAt g p

@@ -24,8 +24,7 @@ use Rattle.access.specs.Offsets.{RuleOf}
 use Rattle.access.specs.ByPlace.{occurrencesAt}
 use Rattle.access.proofs.Accessors.{rule-starts}
 use Rattle.access.proofs.Same.{symbol-same}
-use Rattle.closing.specs.Rows.{leads, arcsAt}
-use Rattle.closing.proofs.ClosedLaws.{Kept}
+use Rattle.closing.specs.Rows.{leads, arcsAt, Kept}
 use Rattle.closing.proofs.GatherLaws.{arc-at, arcs-lt}
 use Rattle.inducing.specs.Closes.{Closes}
 use Rattle.inducing.specs.Arcs.{SpreadArc, ArcsFit, Gathered}

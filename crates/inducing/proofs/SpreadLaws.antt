@@ -14,8 +14,7 @@ use Rattle.basics.specs.Lists.{word}
 use Rattle.basics.proofs.TestLaws.{below-suc, and-right}
 use Rattle.grammar.specs.Table.{attributes, lengthAt}
 use Rattle.access.specs.ByPlace.{symbolFrom}
-use Rattle.closing.specs.Rows.{leads, arcsAt}
-use Rattle.closing.proofs.ClosedLaws.{Kept}
+use Rattle.closing.specs.Rows.{leads, arcsAt, Kept}
 use Rattle.closing.proofs.GatherLaws.{arc-at, arcs-lt}
 use Rattle.inducing.specs.Closes.{Closes, ArcAt, Ends}
 use Rattle.inducing.specs.Arcs.{SpreadArc, Ruled, ArcsFit}

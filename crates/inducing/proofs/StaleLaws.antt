@@ -32,9 +32,6 @@ use Rattle.inducing.proofs.HoldsLaws.{frame-none, frame-then}
 use Rattle.inducing.proofs.ExactLaws.{arc-small, arc-symbol}
 
 -- a member of a part of a set is one of the set
-pub chosen-first : (stale r : ℕ) → First stale r → Chosen stale r
-chosen-first stale r f = record { small = f .small; member = f .member }
-
 pub chosen-ahead : (stale limit ahead r : ℕ) → ahead ≡ minus stale limit → First ahead r → Chosen stale r
 chosen-ahead stale limit ahead r e f =
     record {

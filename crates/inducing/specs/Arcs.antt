@@ -26,6 +26,15 @@ pub record FunctionArc (g : List ℕ) (f n a b : ℕ) : Type 0 where
   pub argument : a ≡ word g (f + 2 + place)
   pub target : b ≡ word g f
 
+-- a set of the first n arguments of the function at word f: the sources of its arcs
+pub record Sources (g : List ℕ) (f n from : ℕ) : Type 0 where
+  pub has : (a b : ℕ) → FunctionArc g f n a b → T (hasb a from)
+  pub sound : (a : ℕ) → T (hasb a from) → FunctionArc g f n a (word g f)
+
+-- they have places in a set
+abbrev pub ArgumentsSmall : List ℕ → ℕ → Type 0
+ArgumentsSmall g f = (j : ℕ) → j < argumentsAt g f → word g (f + 2 + j) < 64
+
 -- the rule at word p, its first n functions
 pub record RuleArc (g : List ℕ) (p n a b : ℕ) : Type 0 where
   pub function : ℕ

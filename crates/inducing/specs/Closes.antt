@@ -9,8 +9,7 @@ use lib.ListN.{length}
 use Rattle.bits.specs.Bit.{hasb}
 use Rattle.basics.specs.Lists.{word}
 use Rattle.relations.specs.Paper.{Path⁺}
-use Rattle.closing.specs.Rows.{leads}
-use Rattle.closing.proofs.ClosedLaws.{Kept}
+use Rattle.closing.specs.Rows.{leads, Kept}
 
 -- the arcs from each member of one set to each member of another
 abbrev pub Between : ℕ → ℕ → ℕ → ℕ → Type 0
@@ -39,6 +38,11 @@ pub record ArcAt (i arcs c d : ℕ) : Type 0 where
   pub member : T (hasb number arcs)
   pub start : c ≡ 8 * i + number / 8
   pub end : d ≡ 8 * i + number % 8
+
+-- those of them that start at attribute a
+pub record ArcOut (i arcs a c d : ℕ) : Type 0 where
+  pub arc : ArcAt i arcs c d
+  pub from : arc .number / 8 ≡ a
 
 -- the ends of each of them are occurrences
 abbrev pub Ends : ℕ → ℕ → ℕ → Type 0

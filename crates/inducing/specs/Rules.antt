@@ -10,8 +10,7 @@ use Rattle.basics.specs.Lists.{word}
 use Rattle.grammar.specs.Table.{rules, ruleAt}
 use Rattle.relations.specs.Paper.{DP, IDS, IDP⁺}
 use Rattle.access.specs.ByPlace.{occurrencesAt}
-use Rattle.closing.specs.Rows.{leads}
-use Rattle.closing.proofs.ClosedLaws.{Kept}
+use Rattle.closing.specs.Rows.{leads, Kept}
 
 -- the occurrences of rule r, as a set
 abbrev pub occurrencesOf : List ℕ → ℕ → ℕ

@@ -9,7 +9,7 @@ use native.Mathlib.Omega.{arith}
 use lib.Dec.{ltb, lt→ltb, not-T, T-not}
 use lib.Pow.{pow-pos, pow-mono}
 use borrow.Author.Tests.{le-ltb}
-use lib.ListN.{length, replicate, length-replicate, getD-replicate}
+use lib.ListN.{length, getD, replicate, length-replicate, getD-replicate}
 use lib.Seq.{ext-getD}
 use Rattle.bits.specs.Bit.{below}
 use Rattle.basics.specs.Tests.{_and_}
@@ -19,12 +19,12 @@ use Rattle.grammar.specs.Limits.{mostAttributes}
 use Rattle.grammar.specs.declared.Verdict.the-variants.{Good}
 use Rattle.grammar.specs.Table.{symbols, nonterminal, attributes, mask, symbolCounts}
 use Rattle.grammar.specs.Reading.{readTable}
-use Rattle.grammar.specs.WellFormed.{WellFormed}
+use Rattle.grammar.specs.WellFormed.{WellFormed, SymbolFormed}
 use Rattle.grammar.proofs.AcceptedTable.{accepted}
 use Rattle.sets.specs.Computed.{placedUpTo, setsOfSymbol, setsOf, mostSets}
 use Rattle.sets.specs.Visits.{setNumber}
 use Rattle.sets.proofs.SetWords.{length-sets, word-of-symbol, number-of-other}
-use Rattle.placing.specs.SymbolSets.{numberedTo, leftAfter, takenNext, placedNonterminal}
+use Rattle.placing.specs.SymbolSets.{numberedTo, leftAfter, takenNext, placedAttributes, placedNonterminal}
 use Rattle.placing.proofs.SymbolLaws.{PlacedTo, placing-start, placing-turn}
 
 -- nine times over, the words and what is left are as the definition has them
@@ -42,17 +42,24 @@ pub over-terminal : (g : List ℕ) (x arcs : ℕ) (sets : List ℕ) (t : Bool) �
 unfolding placedNonterminal
 over-terminal g x arcs sets t e f = sym (passed-over (nonterminal g x) _ sets (false-T _ (sym e ∙ f)))
 
-pub nonterminal-placed : (g : List ℕ) (x arcs every inherited : ℕ) (sets next : List ℕ) (t : Bool) → t ≡ nonterminal g x → t ≡ true
-    → every ≡ below (attributes g x) → inherited ≡ mask g x → next ≡ numberedTo sets (8 * x) every inherited arcs 9
-    → next ≡ placedNonterminal g x arcs sets
+-- a nonterminal gets its sets
+pub nonterminal-placed : (g : List ℕ) (x arcs : ℕ) (sets next : List ℕ) (t : Bool) → t ≡ nonterminal g x → t ≡ true
+    → next ≡ placedAttributes g x arcs sets → next ≡ placedNonterminal g x arcs sets
 unfolding placedNonterminal
-nonterminal-placed g x arcs every inherited sets next t e f h q n =
-    n
-    ∙ (ap (λ (v : ℕ). numberedTo sets (8 * x) v inherited arcs 9) h
-    ∙ (ap (λ (v : ℕ). numberedTo sets (8 * x) (below (attributes g x)) v arcs 9) q ∙ sym (chosen (nonterminal g x) _ sets (true-T _ (sym e ∙ f)))))
+nonterminal-placed g x arcs sets next t e f n = n ∙ sym (chosen (nonterminal g x) _ sets (true-T _ (sym e ∙ f)))
 
-pub below-fits : (n s : ℕ) → n ≤ 8 → s ≡ below n → s < 256
-below-fits n s h e = subst⁻¹ (λ (x : ℕ). x < 256) e (omega (arith, pow-pos n, pow-mono {i = n} {j = 8} h))
+pub attributes-placed : (g : List ℕ) (x arcs count every inherited : ℕ) (sets next : List ℕ) → count ≡ attributes g x → every ≡ below count
+    → inherited ≡ mask g x → next ≡ numberedTo sets (8 * x) every inherited arcs 9 → next ≡ placedAttributes g x arcs sets
+unfolding placedAttributes
+attributes-placed g x arcs count every inherited sets next c h q n =
+    n
+    ∙ (ap (λ (v : ℕ). numberedTo sets (8 * x) v inherited arcs 9) (h ∙ ap below c)
+    ∙ ap (λ (v : ℕ). numberedTo sets (8 * x) (below (attributes g x)) v arcs 9) q)
+
+-- the attributes of a symbol are a small set
+pub attributes-small : (g : List ℕ) (x n every : ℕ) → SymbolFormed g x → n ≡ attributes g x → every ≡ below n → every < 256
+attributes-small g x n every w e q =
+    subst⁻¹ (λ (s : ℕ). s < 256) q (omega (arith, pow-pos n, pow-mono {i = n} {j = 8} (omega (arith, w .attributesFit))))
 
 -- The loop over the symbols: those that are done have their sets, the others zeros.
 pub record SetsTo (g ids sets : List ℕ) (x : ℕ) : Type 0 where
@@ -61,15 +68,24 @@ pub record SetsTo (g ids sets : List ℕ) (x : ℕ) : Type 0 where
   pub size : length sets ≡ 256
   pub words : (y a : ℕ) → y < 32 → a < 8 → word sets (8 * y + a) ≡ cond (ltb y x) (word (setsOfSymbol g ids y) a) 0
 
-pub sets-start : (g ids : List ℕ) → readTable g ≡ Good → SetsTo g ids (replicate 256 0) 0
-sets-start g ids good =
+pub sets-start : (g ids sets : List ℕ) → readTable g ≡ Good → sets ≡ replicate 256 0 → SetsTo g ids sets 0
+sets-start g ids sets good e =
     record {
       inside = omega arith;
       formed = accepted g good;
-      size = length-replicate {A = ℕ} 256 0;
+      size = ap length e ∙ length-replicate {A = ℕ} 256 0;
       words = λ y a h l.
-          getD-replicate {A = ℕ} 256 (8 * y + a) 0 0 (omega arith) ∙ sym (passed-over (ltb y 0) _ 0 (false-T _ (le-ltb y 0 (omega arith))));
+          ap (λ (s : List ℕ). word s (8 * y + a)) e
+          ∙ (getD-replicate {A = ℕ} 256 (8 * y + a) 0 0 (omega arith) ∙ sym (passed-over (ltb y 0) _ 0 (false-T _ (le-ltb y 0 (omega arith)))));
     }
+
+-- the symbol that is next
+module _ (g ids sets : List ℕ) (n x : ℕ) (w : SetsTo g ids sets x) (e : n ≡ symbols g) (h : x < n) where
+  pub next-formed : SymbolFormed g x
+  next-formed = w .formed .symbol x (omega arith)
+
+  pub next-small : x < 32
+  next-small = omega (arith, w .formed .symbolsFit)
 
 -- the words of symbol x after it is done, and those of the others
 module _ (g ids sets : List ℕ) (x : ℕ) (w : SetsTo g ids sets x) (h : x < symbols g) where
@@ -89,13 +105,13 @@ module _ (g ids sets : List ℕ) (x : ℕ) (w : SetsTo g ids sets x) (h : x < sy
   nine = all-placed g ids x sets (8 * x) start-there 9
 
   placed-size : length (placedNonterminal g x (word ids x) sets) ≡ 256
-  unfolding placedNonterminal
+  unfolding placedNonterminal placedAttributes
   placed-size =
       ⊎-elim (λ t. ap length (chosen (nonterminal g x) _ sets t) ∙ (nine .size ∙ w .size))
       (λ t. ap length (passed-over (nonterminal g x) _ sets t) ∙ w .size) (tested (nonterminal g x))
 
   placed-here : (a : ℕ) → a < 8 → word (placedNonterminal g x (word ids x) sets) (8 * x + a) ≡ word (setsOfSymbol g ids x) a
-  unfolding placedNonterminal setsOfSymbol
+  unfolding placedNonterminal placedAttributes setsOfSymbol
   placed-here a l =
       ⊎-elim
       (λ t.
@@ -112,16 +128,16 @@ module _ (g ids sets : List ℕ) (x : ℕ) (w : SetsTo g ids sets x) (h : x < sy
       (tested (nonterminal g x))
 
   placed-other : (j : ℕ) → (j < 8 * x) ⊎ (8 * x + 8 ≤ j) → word (placedNonterminal g x (word ids x) sets) j ≡ word sets j
-  unfolding placedNonterminal
+  unfolding placedNonterminal placedAttributes
   placed-other j o =
       ⊎-elim (λ t. ap (λ (s : List ℕ). word s j) (chosen (nonterminal g x) _ sets t) ∙ nine .others j o)
       (λ t. ap (λ (s : List ℕ). word s j) (passed-over (nonterminal g x) _ sets t)) (tested (nonterminal g x))
 
 -- one symbol more
-pub sets-turn : (g ids sets : List ℕ) (x arcs : ℕ) (next : List ℕ) → SetsTo g ids sets x → x < symbols g → arcs ≡ word ids x
-    → next ≡ placedNonterminal g x arcs sets → SetsTo g ids next (x + 1)
-sets-turn g ids sets x arcs next w h e f =
-    let n : next ≡ placedNonterminal g x (word ids x) sets = f ∙ ap (λ (v : ℕ). placedNonterminal g x v sets) e in
+pub sets-turn : (g ids sets : List ℕ) (m x : ℕ) (next : List ℕ) → SetsTo g ids sets x → m ≡ symbols g → x < m
+    → next ≡ placedNonterminal g x (getD ids x 0) sets → SetsTo g ids next (x + 1)
+sets-turn g ids sets m x next w e r n =
+    let h : x < symbols g = omega arith in
     record {
       inside = omega arith;
       formed = w .formed;
@@ -148,9 +164,9 @@ sets-turn g ids sets x arcs next w h e f =
     }
 
 -- all symbols
-pub sets-finish : (g ids sets : List ℕ) (x : ℕ) → SetsTo g ids sets x → symbols g ≤ x → sets ≡ setsOf g ids
+pub sets-finish : (g ids sets : List ℕ) (n x : ℕ) → SetsTo g ids sets x → n ≡ symbols g → n ≤ x → sets ≡ setsOf g ids
 unfolding setNumber
-sets-finish g ids sets x w h =
+sets-finish g ids sets n x w e h =
     ext-getD 0 sets (setsOf g ids) (w .size ∙ sym (length-sets g ids))
     (λ j l.
     let i : 8 * (j / 8) + j % 8 ≡ j = omega arith in

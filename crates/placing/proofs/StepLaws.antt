@@ -37,10 +37,8 @@ stepping-start sets at every inherited arcs h l =
     record { count = omega arith; room = h; size = refl; small = l; words = refl; leftIs = refl }
 
 -- what a set takes has room in the words
-pub taken-fits : (entry : List ℕ) (at every inherited arcs : ℕ) (sets : List ℕ) (left k class taken : ℕ)
-    → Stepping entry at every inherited arcs sets left k → taken ≡ takenFrom arcs left class → (at + 8 ≤ length sets) × (taken < 256)
-taken-fits entry at every inherited arcs sets left k class taken w e =
-    (omega (arith, w .room, w .size), subst⁻¹ (λ (n : ℕ). n < 256) e (taken-lt arcs left class (w .small)))
+pub taken-fits : (arcs left class taken : ℕ) → taken ≡ takenFrom arcs left class → left < 256 → taken < 256
+taken-fits arcs left class taken e h = subst⁻¹ (λ (n : ℕ). n < 256) e (taken-lt arcs left class h)
 
 pub stepping-turn : (entry : List ℕ) (at every inherited arcs : ℕ) (sets : List ℕ) (left k class taken : ℕ) (next : List ℕ) (rest : ℕ)
     → Stepping entry at every inherited arcs sets left k → k < 9 → class ≡ classOf every inherited (k + 1) → taken ≡ takenFrom arcs left class

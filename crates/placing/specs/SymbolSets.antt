@@ -39,7 +39,9 @@ numberedTo sets at every inherited arcs zero = sets
 numberedTo sets at every inherited arcs (suc k) =
     numbered (numberedTo sets at every inherited arcs k) at (takenNext every inherited arcs k) (suc k)
 
--- the set words with the nine sets of symbol x, if it is a nonterminal
+-- the set words with the nine sets of symbol x, and with them if it is a nonterminal
+unfoldable pub placedAttributes : List ℕ → ℕ → ℕ → List ℕ → List ℕ
+placedAttributes g x arcs sets = numberedTo sets (8 * x) (below (attributes g x)) (mask g x) arcs 9
+
 unfoldable pub placedNonterminal : List ℕ → ℕ → ℕ → List ℕ → List ℕ
-placedNonterminal g x arcs sets =
-    cond (nonterminal g x) (numberedTo sets (8 * x) (below (attributes g x)) (mask g x) arcs 9) sets
+placedNonterminal g x arcs sets = cond (nonterminal g x) (placedAttributes g x arcs sets) sets

@@ -69,7 +69,19 @@ fn place_symbol(sets: &mut [u16], at: usize, every: u64, inherited: u64, arcs: u
     }
 }
 
-// The sets of symbol x, if it is a nonterminal.
+// The sets of symbol x, which is a nonterminal.
+fn place_attributes(words: &[u16], x: usize, arcs: u64, sets: &mut [u16])
+    requires { ⌜ SymbolFormed (now words) x ⌝ }
+    requires { ⌜ x < 32 ⌝ }
+    requires { ⌜ length (now sets) ≡ limits.setWords ⌝ }
+    ensures { λ _. ⌜ now (sets .exit) ≡ masks.placedAttributes (now (words .entry)) x arcs (now (sets .entry)) ⌝ }
+{
+    let every = bits::below(access::attributes(words, x));
+    let inherited = access::inherited_set(words, x);
+    place_symbol(sets, 8 * x, every, inherited, arcs);
+}
+
+// The sets of symbol x, if it is one.
 fn place_nonterminal(words: &[u16], x: usize, arcs: u64, sets: &mut [u16])
     requires { ⌜ SymbolFormed (now words) x ⌝ }
     requires { ⌜ x < 32 ⌝ }
@@ -77,8 +89,7 @@ fn place_nonterminal(words: &[u16], x: usize, arcs: u64, sets: &mut [u16])
     ensures { λ _. ⌜ now (sets .exit) ≡ masks.placedNonterminal (now (words .entry)) x arcs (now (sets .entry)) ⌝ }
 {
     if access::nonterminal(words, x) {
-        let every = bits::below(access::attributes(words, x));
-        place_symbol(sets, 8 * x, every, access::mask(words, x) as u64, arcs);
+        place_attributes(words, x, arcs, sets);
         return;
     }
 }
@@ -89,7 +100,8 @@ pub fn sets_of(words: &[u16], ids: &[u64; 32]) -> [u16; SET_WORDS]
     ensures { λ r. ⌜ r ≡ setsOf (now (words .entry)) (now (ids .entry)) ⌝ }
 {
     let mut sets = [0u16; SET_WORDS];
-    for x in 0..access::word(words, 0) {
+    let symbols = access::symbols(words);
+    for x in 0..symbols {
         place_nonterminal(words, x, ids[x], &mut sets);
     }
     sets

@@ -1,10 +1,9 @@
--- `closing::arcs_at` meets its contract. Assumes nothing.
-use native.Mathlib.Omega.{arith}
-use borrow.Author.Needs.{needs}
+-- The invariant: the arcs from the first a attributes are in the set, each at its own eight places.
 use Prim.Native.Nat.{_≤_, _-_}
 use mathlib.Core.Path.{_≡_}
+use borrow.Author.Needs.{needs}
 use Rattle.closing.specs.Rows.{arcsAt}
-use Rattle.closing.proofs.GatherLaws.{gather-none, gather-turn, gathered, field-fits}
+use Rattle.closing.proofs.GatherLaws.{gather-none, gather-turn, gather-end}
 use Rattle.closing.proofs.arcs_at.Statement.{statement}
 use Rattle.closing.proofs.arcs_at.Tie as tie
 
@@ -15,34 +14,31 @@ abbrev μ-loop : tie.MeasureT-loop
 μ-loop rows base i count arcs₀ a₀ arcs a = count - a
 
 loop-holds : tie.Need-loop-holds Inv-loop μ-loop
-loop-holds c = (search needs, gather-none _ _ _)
+loop-holds c = (search needs, search gather-none)
 
-mul-row : tie.Need-mul-row Inv-loop μ-loop
-mul-row c = search needs
+mul-moved : tie.Need-mul-moved Inv-loop μ-loop
+mul-moved c = search needs
 
-add-row : tie.Need-add-row Inv-loop μ-loop
-add-row c = search needs
+add-moved : tie.Need-add-moved Inv-loop μ-loop
+add-moved c = search needs
 
-add-row-2 : tie.Need-add-row-2 Inv-loop μ-loop
-add-row-2 c = search needs
+add-moved-2 : tie.Need-add-moved-2 Inv-loop μ-loop
+add-moved-2 c = search needs
 
-mul-row-2 : tie.Need-mul-row-2 Inv-loop μ-loop
-mul-row-2 c = search needs
+mul-moved-2 : tie.Need-mul-moved-2 Inv-loop μ-loop
+mul-moved-2 c = search needs
 
-shared-slice-read-row : tie.Need-shared-slice-read-row Inv-loop μ-loop
-shared-slice-read-row c = search needs
+shared-slice-read-moved : tie.Need-shared-slice-read-moved Inv-loop μ-loop
+shared-slice-read-moved c = search needs
 
-mul-field : tie.Need-mul-field Inv-loop μ-loop
-mul-field c = search needs
+mul-moved-3 : tie.Need-mul-moved-3 Inv-loop μ-loop
+mul-moved-3 c = search needs
 
-field-requires : tie.Need-field-requires Inv-loop μ-loop
-field-requires c κs = search needs
+mul-moved-4 : tie.Need-mul-moved-4 Inv-loop μ-loop
+mul-moved-4 c = search needs
 
-mul-raised : tie.Need-mul-raised Inv-loop μ-loop
-mul-raised c = search needs
-
-raised-requires : tie.Need-raised-requires Inv-loop μ-loop
-raised-requires c κs = (search field-fits, search needs)
+moved-requires : tie.Need-moved-requires Inv-loop μ-loop
+moved-requires c κs = search needs
 
 union-requires : tie.Need-union-requires Inv-loop μ-loop
 union-requires c κs = search needs
@@ -54,19 +50,10 @@ loop-less : tie.Need-loop-less Inv-loop μ-loop
 loop-less c = search needs
 
 loop-again : tie.Need-loop-again Inv-loop μ-loop
-loop-again c = (
-  search needs,
-  gather-turn (c .before .before .before .before .before .before .before .args .rows .now) (c .before .before .before .before .before .before .before .args .base)
-      (c .before .before .before .before .before .before .before .args .i) (c .before .before .before .before .before .loop .a)
-      (c .before .before .before .before .before .loop .arcs) (c .before .before .field .result) (c .before .raised .result) (c .union .result)
-      (omega arith) (c .before .before .before .before .before .loop .inv .1) (c .before .before .field .ensures) (c .before .raised .ensures)
-      (c .union .ensures),
-)
+loop-again c = (search needs, search gather-turn)
 
 returns : tie.Need-returns Inv-loop μ-loop
-returns c =
-    gathered (c .before .before .before .args .rows .now) (c .before .before .before .args .base) (c .before .before .before .args .i)
-    (c .before .before .before .args .count) (c .before .loop .arcs) (c .before .loop .a) (c .before .loop .inv .1) (omega arith)
+returns c = search gather-end
 
 pub arcs-at-spec : {M : Type 1} → statement M
 arcs-at-spec =
@@ -75,15 +62,14 @@ arcs-at-spec =
     Inv-loop
     μ-loop
     loop-holds
-    mul-row
-    add-row
-    add-row-2
-    mul-row-2
-    shared-slice-read-row
-    mul-field
-    field-requires
-    mul-raised
-    raised-requires
+    mul-moved
+    add-moved
+    add-moved-2
+    mul-moved-2
+    shared-slice-read-moved
+    mul-moved-3
+    mul-moved-4
+    moved-requires
     union-requires
     add-a
     loop-less

@@ -1,4 +1,4 @@
--- The invariant: the rows of the occurrences that are no longer left have the arcs, and the others are as they were. Assumes nothing.
+-- The invariant: the rows of the occurrences that are no longer left have the arcs, and the others are as they were.
 use borrow.Author.Needs.{needs}
 use Rattle.closing.proofs.RewriteLaws.{rest-less}
 use Rattle.closing.proofs.ConnectLaws.{Connecting, connecting-start, connecting-turn, connecting-finish}

@@ -1,4 +1,4 @@
--- `closing::extended` meets its contract: what a row and o share with a set says whether o reaches it. Assumes nothing.
+-- What a row and o share with a set says whether o reaches a member of it: then all that is reached belongs to the row, else nothing new does.
 use Rattle.closing.proofs.ConnectLaws.{no-way, some-way}
 use borrow.Author.Needs.{needs}
 use Rattle.closing.proofs.extended.Statement.{statement}

@@ -1,4 +1,4 @@
--- The invariant: the members of the set are there, and all that those lead to which are no longer left. Assumes nothing.
+-- The invariant: the members of the set are there, and all that those lead to which are no longer left.
 use borrow.Author.Needs.{needs}
 use Rattle.closing.proofs.RewriteLaws.{rest-less}
 use Rattle.closing.proofs.ConnectLaws.{Reaching, reaching-start, reaching-turn, reaching-finish}

@@ -2,31 +2,29 @@
 -- before it has no cycle, and no lower occurrence of its rule lies on one. The measures are the rules and the occurrences that are left.
 use Prim.Native.Nat.{_≤_, _-_}
 use mathlib.Core.Path.{_≡_}
-use native.Mathlib.Omega.{arith}
 use borrow.Author.Needs.{needs}
-use Rattle.inducing.specs.Cycles.{lies, cyclic}
 use Rattle.inducing.specs.declared.Cycle.the-variants.{Nothing}
-use Rattle.inducing.proofs.CycleLaws.{None, rule-passed, row-passed, search-none, search-found}
+use Rattle.inducing.proofs.CycleLaws.{NoneBefore, RulesBefore, row-start, row-passed, rules-start, rule-passed, search-none, search-found}
 use Rattle.inducing.proofs.find_cycle.Statement.{statement}
 use Rattle.inducing.proofs.find_cycle.Tie as tie
 
 abbrev Inv-loop : tie.InvT-loop
-Inv-loop rows rules found₀ r o₀ found o = (o ≤ 64) × (found ≡ Nothing) × None o (λ p. lies rows r p)
+Inv-loop rows rules found₀ r o₀ found o = (o ≤ 64) × (found ≡ Nothing) × NoneBefore rows r o
 
 abbrev μ-loop : tie.MeasureT-loop
 μ-loop rows rules found₀ r o₀ found o = 64 - o
 
 abbrev Inv-search : tie.InvT-search
-Inv-search rows rules found₀ r₀ found r = (r ≤ rules) × (found ≡ Nothing) × None r (λ q. cyclic rows q)
+Inv-search rows rules found₀ r₀ found r = (r ≤ rules) × (found ≡ Nothing) × RulesBefore rows r
 
 abbrev μ-search : tie.MeasureT-search
 μ-search rows rules found₀ r₀ found r = rules - r
 
 search-holds : tie.Need-search-holds Inv-loop μ-loop Inv-search μ-search
-search-holds c = search needs
+search-holds c = (search needs, search needs, search rules-start)
 
 loop-holds : tie.Need-loop-holds Inv-loop μ-loop Inv-search μ-search
-loop-holds c = search needs
+loop-holds c = (search needs, search needs, search row-start)
 
 mul-has : tie.Need-mul-has Inv-loop μ-loop Inv-search μ-search
 mul-has c = search needs
@@ -50,12 +48,7 @@ loop-less : tie.Need-loop-less Inv-loop μ-loop Inv-search μ-search
 loop-less c = search needs
 
 loop-again : tie.Need-loop-again Inv-loop μ-loop Inv-search μ-search
-loop-again c = (
-  search needs,
-  (c .before .before .before .before .loop .inv .1),
-  row-passed _ (c .before .before .before .before .before .before
-      .search .r) _ _ (c .before .before .before .before .loop .inv .2) (c .before .has .ensures) (c .if1 .left),
-)
+loop-again c = (search needs, search needs, search row-passed)
 
 add-r : tie.Need-add-r Inv-loop μ-loop Inv-search μ-search
 add-r c = search needs
@@ -64,23 +57,13 @@ search-less : tie.Need-search-less Inv-loop μ-loop Inv-search μ-search
 search-less c = search needs
 
 search-again : tie.Need-search-again Inv-loop μ-loop Inv-search μ-search
-search-again c = (
-  search needs,
-  (c .before .loop .inv .1),
-  rule-passed (c .before .before .before .before .before .args .rows .now) (c .before .before
-      .before .search .r) (c .before .loop .o) (c .before .before .before .search .inv .2) (c .before .loop .inv .2) (omega arith),
-)
+search-again c = (search needs, search needs, search rule-passed)
 
 returns : tie.Need-returns Inv-loop μ-loop Inv-search μ-search
-returns c =
-    search-none (c .before .before .before .args .rows .now) (c .before .before .before .args .rules) (c .before .search .r) (c .before
-    .search .found) (c .before .search .inv .2) (omega arith) (c .before .search .inv .1)
+returns c = search search-none
 
 returns-2 : tie.Need-returns-2 Inv-loop μ-loop Inv-search μ-search
-returns-2 c =
-    search-found _ _ (c .before .before .before .before .before .before .search .r) _ _ (omega arith) (omega arith) (c .before .before
-    .before .before .before .before .search .inv .2) (c .before .before .before .before .loop .inv .2) (c .before .has .ensures) (c .if1
-    .taken)
+returns-2 c = search search-found
 
 pub find-cycle-spec : {M : Type 1} → statement M
 find-cycle-spec =

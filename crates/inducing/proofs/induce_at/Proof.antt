@@ -1,10 +1,8 @@
--- The invariant: the arcs from the first a attributes are there, and the rows are closed. Each turn adds those that are missing from
--- the next attribute.
+-- The invariant: the arcs from the first a attributes are there, and the rows are closed. Where no attribute from a on has arcs, all are there.
 use Prim.Native.Nat.{_≤_, _-_}
 use borrow.Author.Needs.{needs}
-use Rattle.closing.proofs.GatherLaws.{field-fits}
 use Rattle.inducing.specs.Closes.{Closes}
-use Rattle.inducing.proofs.ClosesLaws.{ArcFrom, induce-start, missing-inside, induce-turn, induce-early, induce-finish}
+use Rattle.inducing.proofs.ClosesLaws.{ArcFrom, induce-start, induce-turn, induce-early, induce-finish}
 use Rattle.inducing.proofs.induce_at.Statement.{statement}
 use Rattle.inducing.proofs.induce_at.Tie as tie
 
@@ -29,51 +27,8 @@ same-length c = search needs
 returns : tie.Need-returns Inv-loop μ-loop
 returns c = search induce-early
 
-mul-o : tie.Need-mul-o Inv-loop μ-loop
-mul-o c = search needs
-
-add-o : tie.Need-add-o Inv-loop μ-loop
-add-o c = search needs
-
-mul-field : tie.Need-mul-field Inv-loop μ-loop
-mul-field c = search needs
-
-field-requires : tie.Need-field-requires Inv-loop μ-loop
-field-requires c κs = search needs
-
-mul-raised : tie.Need-mul-raised Inv-loop μ-loop
-mul-raised c = search needs
-
-raised-requires : tie.Need-raised-requires Inv-loop μ-loop
-raised-requires c κs = (search field-fits, search needs)
-
-add-minus : tie.Need-add-minus Inv-loop μ-loop
-add-minus c = search needs
-
-mul-minus : tie.Need-mul-minus Inv-loop μ-loop
-mul-minus c = search needs
-
-slice-read-minus : tie.Need-slice-read-minus Inv-loop μ-loop
-slice-read-minus c = search needs
-
-minus-requires : tie.Need-minus-requires Inv-loop μ-loop
-minus-requires c κs = search needs
-
-single-requires-2 : tie.Need-single-requires-2 Inv-loop μ-loop
-single-requires-2 c κs = search needs
-
-join-requires : tie.Need-join-requires Inv-loop μ-loop
-join-requires c κs = (
-  search needs,
-  search (
-    missing-inside,
-    (c .before .before .before .before .before .field .ensures),
-    (c .before .before .before .before .raised .ensures),
-    (c .single2 .ensures),
-    (c .before .before .minus .ensures),
-    (c .before .before .before .before .before .before .before .before .before .before .before .pre .1 .1),
-  ),
-)
+induce-from-requires : tie.Need-induce-from-requires Inv-loop μ-loop
+induce-from-requires c κs = search needs
 
 add-a : tie.Need-add-a Inv-loop μ-loop
 add-a c = search needs
@@ -82,19 +37,7 @@ loop-less : tie.Need-loop-less Inv-loop μ-loop
 loop-less c = search needs
 
 loop-again : tie.Need-loop-again Inv-loop μ-loop
-loop-again c = (
-  search needs,
-  search (
-    induce-turn,
-    needs,
-    (c .before .before .before .before .before .before .before .before .field .ensures),
-    (c .before .before .before .before .before .before .before .raised .ensures),
-    (c .before .before .before .single2 .ensures),
-    (c .before .before .before .before .before .minus .ensures),
-    (c .before .before .before .before .before .before .before .before .before .before .before .before .loop .inv .1),
-    (c .before .before .join .ensures),
-  ),
-)
+loop-again c = (search needs, search induce-turn)
 
 same-length-2 : tie.Need-same-length-2 Inv-loop μ-loop
 same-length-2 c = search needs
@@ -113,18 +56,7 @@ induce-at-spec =
     single-requires
     same-length
     returns
-    mul-o
-    add-o
-    mul-field
-    field-requires
-    mul-raised
-    raised-requires
-    add-minus
-    mul-minus
-    slice-read-minus
-    minus-requires
-    single-requires-2
-    join-requires
+    induce-from-requires
     add-a
     loop-less
     loop-again

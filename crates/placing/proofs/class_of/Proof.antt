@@ -1,4 +1,4 @@
--- `placing::class_of` meets its contract. Assumes nothing.
+-- An odd number has the attributes that are not inherited, an even one those that are.
 use Rattle.placing.proofs.StepLaws.{class-odd, class-even}
 use borrow.Author.Needs.{needs}
 use Rattle.placing.proofs.class_of.Statement.{statement}

@@ -1,4 +1,4 @@
--- `placing::number_set` meets its contract. Assumes nothing.
+-- The invariant: the attributes that are no longer left have the number, and the other words are as they were.
 use borrow.Author.Needs.{needs}
 use Rattle.closing.proofs.RewriteLaws.{taken-less}
 use Rattle.placing.proofs.TakenLaws.{Numbering, numbering-place, numbering-start, numbering-turn, numbering-finish}

@@ -1,4 +1,4 @@
--- `placing::place_symbol` meets its contract. Assumes nothing.
+-- The invariant: after k sets the words and what is left are those of the definition.
 use borrow.Author.Needs.{needs}
 use Prim.Native.Nat.{_-_}
 use Rattle.placing.proofs.StepLaws.{Stepping, stepping-start, taken-fits, stepping-turn, stepping-finish}
@@ -27,7 +27,7 @@ add-number-set : tie.Need-add-number-set Inv-loop μ-loop
 add-number-set c = search needs
 
 number-set-requires : tie.Need-number-set-requires Inv-loop μ-loop
-number-set-requires c κs = taken-fits _ _ _ _ _ _ _ _ _ _ (c .before .before .before .before .loop .inv) (c .before .taken-from .ensures)
+number-set-requires c κs = search (taken-fits, needs)
 
 minus-requires : tie.Need-minus-requires Inv-loop μ-loop
 minus-requires c κs = search needs

@@ -1,39 +1,33 @@
--- `placing::sets_of` meets its contract. Assumes nothing.
-use mathlib.Core.Path.{refl}
-use native.Mathlib.Omega.{arith}
-use borrow.Author.Needs.{needs}
+-- The invariant: the first x symbols have their set words, and all other words are 0.
 use Prim.Native.Nat.{_-_}
-use mathlib.Core.Path.{_≡_}
-use Rattle.grammar.specs.Table.{symbols}
-use Rattle.placing.proofs.SetsLaws.{SetsTo, sets-start, sets-turn, sets-finish}
+use borrow.Author.Needs.{needs}
+use Rattle.placing.proofs.SetsLaws.{SetsTo, sets-start, next-formed, next-small, sets-turn, sets-finish}
 use Rattle.placing.proofs.sets_of.Statement.{statement}
 use Rattle.placing.proofs.sets_of.Tie as tie
 
 abbrev Inv-loop : tie.InvT-loop
-Inv-loop words ids sets₀ x₀ x-end sets x = (x-end ≡ symbols words) × SetsTo words ids sets x
+Inv-loop words ids sets₀ symbols x₀ sets x = SetsTo words ids sets x
 
 abbrev μ-loop : tie.MeasureT-loop
-μ-loop words ids sets₀ x₀ x-end sets x = x-end - x
+μ-loop words ids sets₀ symbols x₀ sets x = symbols - x
 
-word-requires : tie.Need-word-requires Inv-loop μ-loop
-word-requires c κs = search needs
+symbols-requires : tie.Need-symbols-requires Inv-loop μ-loop
+symbols-requires c κs = search needs
 
 loop-holds : tie.Need-loop-holds Inv-loop μ-loop
-loop-holds c =
-    (c .word .ensures .0, sets-start (c .before .before .args .words .now) (c .before .before .args .ids .now) (c .before .before .pre))
+loop-holds c = search sets-start
 
 mul-place-nonterminal : tie.Need-mul-place-nonterminal Inv-loop μ-loop
 mul-place-nonterminal c = search needs
 
 element-copy-out-place-nonterminal : tie.Need-element-copy-out-place-nonterminal Inv-loop μ-loop
-element-copy-out-place-nonterminal c = search needs
+element-copy-out-place-nonterminal c = search next-small
 
 slice-aggregate-place-nonterminal : tie.Need-slice-aggregate-place-nonterminal Inv-loop μ-loop
 slice-aggregate-place-nonterminal c = search needs
 
 place-nonterminal-requires : tie.Need-place-nonterminal-requires Inv-loop μ-loop
-place-nonterminal-requires c κs =
-    (c .before .before .before .loop .inv .1 .formed .symbol (c .before .before .before .loop .x) (omega arith), (omega (arith, c .before .before .before .loop .inv .1 .formed .symbolsFit), c .before .before .before .loop .inv .1 .size))
+place-nonterminal-requires c κs = search (next-formed, next-small, needs)
 
 add-x : tie.Need-add-x Inv-loop μ-loop
 add-x c = search needs
@@ -42,16 +36,10 @@ loop-less : tie.Need-loop-less Inv-loop μ-loop
 loop-less c = search needs
 
 loop-again : tie.Need-loop-again Inv-loop μ-loop
-loop-again c = (
-  c .before .before .before .before .before .loop .inv .0,
-  sets-turn _ _ _ _ _ (c .before .place-nonterminal .last .1 .1 .1 .0) (c
-      .before .before .before .before .before .loop .inv .1) (omega arith) refl (c .before .place-nonterminal .ensures),
-)
+loop-again c = search sets-turn
 
 returns : tie.Need-returns Inv-loop μ-loop
-returns c =
-    sets-finish (c .before .before .before .before .args .words .now) (c .before .before .before .before .args .ids .now) (c .before .loop .sets)
-    (c .before .loop .x) (c .before .loop .inv .1) (omega arith)
+returns c = search sets-finish
 
 pub sets-of-spec : {M : Type 1} → statement M
 sets-of-spec =
@@ -59,7 +47,7 @@ sets-of-spec =
     (tie.spec
     Inv-loop
     μ-loop
-    word-requires
+    symbols-requires
     loop-holds
     mul-place-nonterminal
     element-copy-out-place-nonterminal

@@ -1,4 +1,4 @@
--- `placing::stays` meets its contract. Assumes nothing.
+-- Nothing is left of the unplaced successors outside the class exactly where all of them are of the class.
 use Rattle.placing.proofs.TakenLaws.{stays-by}
 use Rattle.placing.specs.SymbolSets.{stays}
 use borrow.Author.Needs.{needs}

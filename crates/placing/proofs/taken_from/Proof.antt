@@ -1,4 +1,4 @@
--- `placing::taken_from` meets its contract. Assumes nothing.
+-- The invariant: of the candidates that are no longer left, those that stay are taken.
 use borrow.Author.Needs.{needs}
 use Rattle.placing.proofs.TakenLaws.{Taking, taking-start, candidate-small, taking-turn, taking-finish}
 use Rattle.closing.proofs.RewriteLaws.{taken-less}

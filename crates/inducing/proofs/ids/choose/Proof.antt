@@ -1,0 +1,28 @@
+-- Each answer is the lowest member of the stale rules, or of those of them from a number on. So it is stale.
+use borrow.Author.Needs.{needs}
+use Rattle.inducing.proofs.StaleLaws.{chosen-ahead}
+use Rattle.inducing.proofs.ids.choose.Statement.{statement}
+use Rattle.inducing.proofs.ids.choose.Tie as tie
+
+below-requires : tie.Need-below-requires
+below-requires c κs = search needs
+
+minus-requires : tie.Need-minus-requires
+minus-requires c κs = search needs
+
+first-requires : tie.Need-first-requires
+first-requires c κs = search needs
+
+returns : tie.Need-returns
+returns c = search needs
+
+first-requires-2 : tie.Need-first-requires-2
+first-requires-2 c κs = search needs
+
+returns-2 : tie.Need-returns-2
+returns-2 c = search chosen-ahead
+
+pub choose-spec : {M : Type 1} → statement M
+choose-spec =
+    tie.close
+    (tie.spec below-requires minus-requires first-requires returns first-requires-2 returns-2)

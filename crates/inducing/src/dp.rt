@@ -1,0 +1,105 @@
+// Step 1 of 000, section 7: DP of every rule in its rows, closed.
+use grammar::Offsets;
+use grammar::ROWS;
+ghost use mathlib.Core.Path.{_≡_};
+ghost use Prim.Native.Nat.{ℕ, _+_, _*_, _≤_, _<_};
+ghost use lib.ListN.{length};
+ghost use Rattle.closing.specs.Rows.{Kept};
+ghost use Rattle.inducing.specs.Closes.{Closes};
+ghost use Rattle.basics.specs.Lists.{word};
+ghost use Rattle.grammar.specs.declared.Verdict.the-variants as verdict;
+ghost use Rattle.grammar.specs.Reading.{readTable};
+ghost use Rattle.grammar.specs.Table as table;
+ghost use Rattle.access.specs.Offsets.{offsetsFor, RuleOf};
+ghost use Rattle.relations.specs.Paper.{DP};
+ghost use Rattle.inducing.specs.Rules as rules;
+ghost use Rattle.inducing.specs.Arcs as said;
+
+// No path anywhere.
+pub fn clear(rows: &mut [u64], count: usize)
+    requires { ⌜ count ≤ length (now rows) ⌝ }
+    ensures { λ _. ⌜ rules.Cleared count (now (rows .entry)) (now (rows .exit)) ⌝ }
+{
+    for j in 0..count {
+        rows[j] = 0;
+    }
+}
+
+// How many of the argument words of the function at word f are occurrences: a constant is none.
+fn argument_count(words: &[u16], f: usize) -> usize
+    requires { ⌜ f < 1000000 ⌝ }
+    ensures { λ r. ⌜ r ≡ said.argumentsAt (now (words .entry)) f ⌝ }
+    ensures { λ r. ⌜ r ≤ 4 ⌝ }
+{
+    let op = access::word(words, f + 1);
+    if op == 0 {
+        return 0;
+    }
+    access::argument_words(op)
+}
+
+// The arguments of the function at word f, as a set.
+fn sources(words: &[u16], f: usize) -> u64
+    requires { ⌜ f < 1000000 ⌝ }
+    requires { ⌜ said.ArgumentsSmall (now words) f ⌝ }
+    ensures { λ r. ⌜ said.Sources (now (words .entry)) f (said.argumentsAt (now (words .entry)) f) r ⌝ }
+{
+    let count = argument_count(words, f);
+    let mut from = 0;
+    for j in 0..count {
+        from = bits::with(from, access::word(words, f + 2 + j));
+    }
+    from
+}
+
+// The arcs of the function at word f: from each of its arguments to its target.
+fn fill_function(words: &[u16], f: usize, rows: &mut [u64], base: usize, among: u64)
+    requires { ⌜ (f < 1000000) × (base + 64 ≤ length (now rows)) ⌝ }
+    requires { ⌜ said.FunctionFits (now words) among f ⌝ }
+    requires { ⌜ Kept (now rows) base among ⌝ }
+    ensures { λ _. ⌜ Closes (now (rows .entry)) base among (said.FunctionArc (now (words .entry)) f (said.argumentsAt (now (words .entry)) f)) (now (rows .exit)) ⌝ }
+{
+    let target = access::word(words, f);
+    let from = sources(words, f);
+    super::join(rows, base, among, from, bits::single(target));
+}
+
+// The arcs of the functions of the rule at word p.
+fn fill_rule(words: &[u16], p: usize, rows: &mut [u64], base: usize, among: u64)
+    requires { ⌜ (p < 65536) × (table.functionsAt (now words) p ≤ 64) × (base + 64 ≤ length (now rows)) ⌝ }
+    requires { ⌜ said.FunctionsFit (now words) p among ⌝ }
+    requires { ⌜ Kept (now rows) base among ⌝ }
+    ensures { λ _. ⌜ Closes (now (rows .entry)) base among (said.RuleArc (now (words .entry)) p (table.functionsAt (now (words .entry)) p)) (now (rows .exit)) ⌝ }
+{
+    let count = access::function_count(words, p);
+    let mut f = access::first_function(words, p);
+    for k in 0..count {
+        fill_function(words, f, rows, base, among);
+        f = access::next_function(words, f);
+    }
+}
+
+// DP of rule r, closed.
+fn fill_at(words: &[u16], offsets: &Offsets, r: usize, rows: &mut [u64])
+    requires { ⌜ RuleOf (now words) (now offsets) r ⌝ }
+    requires { ⌜ Kept (now rows) (64 * r) (rules.occurrencesOf (now words) r) ⌝ }
+    ensures { λ _. ⌜ Closes (now (rows .entry)) (64 * r) (rules.occurrencesOf (now (words .entry)) r) (DP (now (words .entry)) r) (now (rows .exit)) ⌝ }
+{
+    let p = access::rule_at(offsets, r);
+    let among = access::occurrence_set(words, p);
+    fill_rule(words, p, rows, ROWS * r, among);
+}
+
+// Step 1: DP of every rule.
+pub fn fill(words: &[u16], offsets: &Offsets, rows: &mut [u64])
+    requires { ⌜ readTable (now words) ≡ verdict.Good ⌝ }
+    requires { ⌜ now offsets ≡ offsetsFor (now words) verdict.Good ⌝ }
+    requires { ⌜ 64 * table.rules (now words) ≤ length (now rows) ⌝ }
+    requires { ⌜ ((j : ℕ) → j < 64 * table.rules (now words) → word (now rows) j ≡ 0) ⌝ }
+    ensures { λ _. ⌜ rules.Filled (now (words .entry)) (now (rows .entry)) (now (rows .exit)) ⌝ }
+{
+    let count = access::rules(words);
+    for r in 0..count {
+        fill_at(words, offsets, r, rows);
+    }
+}
