@@ -185,6 +185,10 @@ symbol-right g p (suc i) v d h =
     let e : p + 1 + suc i ≡ p + 2 + i = omega arith in
     h ∙ ap (λ (q : ℕ). getD g q 0) e
 
+-- the number of functions stands after a right side of length n
+pub count-at : (g : List ℕ) (p n v : ℕ) → n ≡ lengthAt g p → v ≡ getD g (p + 2 + n) 0 → v ≡ functionsAt g p
+count-at g p n v d e = e ∙ ap (λ (m : ℕ). getD g (p + 2 + m) 0) d
+
 -- past the width a set has no member
 pub member-past : (o s : ℕ) → s < 2 ^ 64 → 64 ≤ o → false ≡ hasb o s
 member-past o s h l = sym (bit-lacks o s (bit-above 64 o s h l))
