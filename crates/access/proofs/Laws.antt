@@ -137,9 +137,6 @@ pub class-of : (g : List ℕ) (x y : ℕ) (u : Bool)
     → u ≡ (nonterminal g x and eqb (mask g x) 0) → x ≡ y → u ≡ (nonterminal g y and eqb (mask g y) 0)
 class-of g x y u e d = e ∙ ap (λ (z : ℕ). nonterminal g z and eqb (mask g z) 0) d
 
-pub member-of : (s x y : ℕ) (u : Bool) → u ≡ hasb x s → x ≡ y → u ≡ hasb y s
-member-of s x y u e d = e ∙ ap (λ (z : ℕ). hasb z s) d
-
 pub fits-of : (b : Bool) (s x y : ℕ) (u : Bool) → u ≡ (b or hasb x s) → x ≡ y → u ≡ (b or hasb y s)
 fits-of b s x y u e d = e ∙ ap (λ (z : ℕ). b or hasb z s) d
 
