@@ -2,7 +2,7 @@
 -- Computed: no demand rests on it. Assumes nothing.
 use Prim.Native.Nat.{ℕ, _+_, _^_, _≤_}
 use mathlib.Core.Path.{_≡_}
-use mathlib.Core.Bool.{false}
+use mathlib.Core.Bool.{true}
 use mathlib.Core.List.{List}
 use lib.Dec.{ltb, leb, eqb}
 use lib.ListN.{length}
@@ -13,7 +13,7 @@ use Rattle.refusals.specs.declared.Refusal.the-variants.{WrongClass, NoOccurren
 use Rattle.grammar.specs.declared.Verdict.{Verdict}
 use Rattle.grammar.specs.declared.Verdict.the-variants.{Good}
 use Rattle.grammar.specs.Limits.{longestRight, mostFunctions, lastOperation}
-use Rattle.grammar.specs.Table.{symbols, symbolAt, attributes, mask, nonterminal, lengthAt, functionsAt}
+use Rattle.grammar.specs.Table.{symbols, symbolAt, attributes, mask, nonterminal, argumentWords, isConstant, lengthAt, functionsAt}
 use Rattle.grammar.specs.Verdicts.{_then_, unless, each}
 use Rattle.grammar.specs.Reading.{ranged, header, symbolFault, startClass, readTable}
 use Rattle.access.specs.Offsets.{offsetsFor}
@@ -33,9 +33,16 @@ openingFault g = header g then each (symbols g) (λ x. symbolFault g x) then sta
 unfoldable pub targetFault : ℕ → ℕ → ℕ → ℕ → Verdict
 targetFault f t occurrences undefined = unless (hasb t occurrences) (NoOccurrence f) then unless (hasb t undefined) (NotDefining f)
 
--- n words from q on, which should be occurrences
-unfoldable pub occurrencesFault : List ℕ → ℕ → ℕ → ℕ → Verdict
-occurrencesFault g q n occurrences = each n (λ j. argumentFrom g (q + j) false occurrences)
+-- four words that are all occurrences
+pub record FourOccur (occurrences a b c d : ℕ) : Type 0 where
+  pub first : hasb a occurrences ≡ true
+  pub second : hasb b occurrences ≡ true
+  pub third : hasb c occurrences ≡ true
+  pub fourth : hasb d occurrences ≡ true
+
+-- the argument words of the function at word f, by its operation
+unfoldable pub argumentsBy : List ℕ → ℕ → ℕ → ℕ → Verdict
+argumentsBy g f op occurrences = each (argumentWords op) (λ j. argumentFrom g (f + 2 + j) (isConstant op) occurrences)
 
 -- what follows the target of the function at word f
 unfoldable pub operandsFault : List ℕ → ℕ → ℕ → Verdict

@@ -18,17 +18,49 @@ ghost use Rattle.grammar.specs.Table as table;
 ghost use Rattle.access.specs.ByPlace as places;
 ghost use Rattle.reading.specs.Steps as steps;
 
-// Whether n words from q on, which are there, are all occurrences.
-fn all_occur(words: &[u16], q: usize, n: usize, occurrences: u64) -> bool
-    requires { ⌜ q + n ≤ length (now words) ⌝ }
-    ensures { λ r. ⌜ (r ≡ true → steps.occurrencesFault (now (words .entry)) q n occurrences ≡ verdict.Good) ⌝ }
+// Whether four words are all occurrences: each is below 64, and the set of them has nothing that the occurrences lack.
+fn four_occur(occurrences: u64, a: usize, b: usize, c: usize, d: usize) -> bool
+    ensures { λ r. ⌜ (r ≡ true → steps.FourOccur occurrences a b c d) ⌝ }
 {
-    for j in 0..n {
-        if !member(occurrences, known_word(words, q + j)) {
-            return false;
-        }
+    if a >= 64 {
+        return false;
     }
-    true
+    if b >= 64 {
+        return false;
+    }
+    if c >= 64 {
+        return false;
+    }
+    if d >= 64 {
+        return false;
+    }
+    let four = bits::with(bits::with(bits::with(bits::single(a), b), c), d);
+    bits::minus(four, occurrences) == 0
+}
+
+// Whether the argument words of operation op surely pass, for a function of six words that are there. An operation of fewer than four arguments has
+// some of them tested twice.
+fn arguments_pass(words: &[u16], f: usize, op: usize, occurrences: u64) -> bool
+    requires { ⌜ (f + 6 ≤ length (now words)) × (op ≤ 8) ⌝ }
+    ensures { λ r. ⌜ (r ≡ true → steps.argumentsBy (now (words .entry)) f op occurrences ≡ verdict.Good) ⌝ }
+{
+    if op == 0 {
+        return true;
+    }
+    let a = known_word(words, f + 2);
+    let b = known_word(words, f + 3);
+    let c = known_word(words, f + 4);
+    let d = known_word(words, f + 5);
+    if op == 1 {
+        return four_occur(occurrences, a, a, a, a);
+    }
+    if op <= 6 {
+        return four_occur(occurrences, a, b, a, b);
+    }
+    if op == 7 {
+        return four_occur(occurrences, a, b, c, c);
+    }
+    four_occur(occurrences, a, b, c, d)
 }
 
 // Whether a target is an occurrence that a function may define.
@@ -53,10 +85,7 @@ fn passes(words: &[u16], f: usize, occurrences: u64, undefined: u64) -> bool
     if op > 8 {
         return false;
     }
-    if op == 0 {
-        return true;
-    }
-    all_occur(words, f + 2, access::argument_words(op), occurrences)
+    arguments_pass(words, f, op, occurrences)
 }
 
 // Whether an argument word is a constant or an occurrence.

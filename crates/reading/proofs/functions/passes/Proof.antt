@@ -1,7 +1,7 @@
 -- `reading::functions::passes` meets its contract. Six words are there, so each is read as it stands; a function that passes every test here passes
 -- the definition's, and where one fails nothing is claimed. Assumes nothing.
 use borrow.Author.Needs.{needs}
-use Rattle.reading.proofs.WholeLaws.{nothing-claimed, constant-function, other-function}
+use Rattle.reading.proofs.WholeLaws.{nothing-claimed, function-passes}
 use Rattle.reading.proofs.functions.passes.Statement.{statement}
 use Rattle.reading.proofs.functions.passes.Tie as tie
 
@@ -23,20 +23,11 @@ known-word-requires-2 c κs = search needs
 returns-2 : tie.Need-returns-2
 returns-2 c = search nothing-claimed
 
+arguments-pass-requires : tie.Need-arguments-pass-requires
+arguments-pass-requires c κs = search needs
+
 returns-3 : tie.Need-returns-3
-returns-3 c = search (constant-function, needs)
-
-add-all-occur : tie.Need-add-all-occur
-add-all-occur c = search needs
-
-argument-words-requires : tie.Need-argument-words-requires
-argument-words-requires c κs = search needs
-
-all-occur-requires : tie.Need-all-occur-requires
-all-occur-requires c κs = search needs
-
-returns-4 : tie.Need-returns-4
-returns-4 c = search (other-function, needs)
+returns-3 c = search function-passes
 
 pub passes-spec : {M : Type 1} → statement M
 passes-spec =
@@ -48,8 +39,5 @@ passes-spec =
     add-known-word
     known-word-requires-2
     returns-2
-    returns-3
-    add-all-occur
-    argument-words-requires
-    all-occur-requires
-    returns-4)
+    arguments-pass-requires
+    returns-3)
