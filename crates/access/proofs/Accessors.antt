@@ -9,14 +9,14 @@ use Rattle.basics.specs.Lists.{tabulate, padded}
 use Rattle.basics.proofs.ListLaws.{length-tabulate, getD-tabulate}
 use Rattle.bits.specs.Bit.{collect}
 use Rattle.grammar.specs.declared.Verdict.the-variants.{Good}
-use Rattle.grammar.specs.Table.{symbols, rules, functionAt, ruleAt, rightLength, symbolOf, occurrence, defining}
+use Rattle.grammar.specs.Table.{symbols, rules, functionAt, ruleAt, rightLength, symbolOf, defining}
 use Rattle.grammar.specs.Reading.{readTable}
 use Rattle.grammar.specs.WellFormed.{WellFormed}
 use Rattle.grammar.proofs.AcceptedTable.{accepted}
 use Rattle.grammar.proofs.RuleStarts.{rules-rise, no-longer-table}
 use Rattle.access.specs.Offsets.{offsetsFor, RuleOf}
-use Rattle.access.specs.ByPlace.{symbolFrom, nextFunction, occurrencesAt, definingsAt, Shaped}
-use Rattle.access.proofs.Same.{symbol-same, occurrences-same, definings-same}
+use Rattle.access.specs.ByPlace.{symbolFrom, nextFunction, definingsAt, Shaped}
+use Rattle.access.proofs.Same.{symbol-same, definings-same}
 
 -- the function after function k
 pub next-function : (g : List ℕ) (p k f : ℕ) → f ≡ functionAt g p k → nextFunction g f ≡ functionAt g p (suc k)
@@ -26,9 +26,6 @@ next-function g p k f e = ap (nextFunction g) e
 module _ (g : List ℕ) (r p : ℕ) (e : p ≡ ruleAt g r) where
   pub symbol-at-rule : (i : ℕ) → symbolFrom g p i ≡ symbolOf g r i
   symbol-at-rule i = ap (λ (q : ℕ). symbolFrom g q i) e ∙ symbol-same g r i
-
-  pub occurrences-at-rule : occurrencesAt g p ≡ collect 64 (λ o. occurrence g r o)
-  occurrences-at-rule = ap (occurrencesAt g) e ∙ occurrences-same g r
 
   pub definings-at-rule : definingsAt g p ≡ collect 64 (λ o. defining g r o)
   definings-at-rule = ap (definingsAt g) e ∙ definings-same g r

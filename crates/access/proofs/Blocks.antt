@@ -90,6 +90,11 @@ bit-of-rest n m a h =
     bit-above n a (minus (below n) m) (minus-lt n (below n) m (ones-lt n)) l
     ∙ sym (ap (λ (t : Bool). number (t and not (hasb a m))) (le-ltb a n l))) (below-or-not a n)
 
+-- where a walk over n positions on the right stands after i of them: the set has the blocks up to position i
+pub record Filled (f : ℕ → Bool) (n i s : ℕ) : Type 0 where
+  pub inside : i ≤ n
+  pub holds : s ≡ collect (8 * (i + 1)) f
+
 -- ---- the rule at word p, position by position
 
 module _ (g : List ℕ) (p : ℕ) where
@@ -137,9 +142,26 @@ module _ (g : List ℕ) (p : ℕ) where
     pub formed-at : (i x : ℕ) → i < lengthAt g p → x ≡ getD g (p + 2 + i) 0 → SymbolFormed g x
     formed-at i x h e = subst (λ (y : ℕ). SymbolFormed g y) (symbol-at i ∙ sym e) (shape .formed (i + 1) (omega arith))
 
+    -- the positions of the right side, as the code counts them up to the length that it read
+    pub place-inside : (n i : ℕ) → n ≡ lengthAt g p → i < n → i + 1 < 8
+    place-inside n i e h = omega (arith, shape .short)
+
+    pub attributes-left : (x : ℕ) → x ≡ getD g p 0 → attributes g x ≤ 8
+    attributes-left x e = formed-left x e .attributesFit
+
+    pub attributes-at : (n i x : ℕ) → n ≡ lengthAt g p → i < n → x ≡ getD g (p + 2 + i) 0 → attributes g x ≤ 8
+    attributes-at n i x e h d = formed-at i x (omega arith) d .attributesFit
+
+    pub block-at : (n i x m : ℕ) → n ≡ lengthAt g p → i < n → x ≡ getD g (p + 2 + i) 0 → m ≡ below (attributes g x) → m < 256
+    block-at n i x m e h d k =
+        subst (λ (b : ℕ). b < 256) (sym k) (below-small (attributes g x) (attributes-at n i x e h d))
+
     -- the inherited attributes of a symbol are few enough for a block
     pub mask-small : (x : ℕ) → SymbolFormed g x → mask g x < 256
     mask-small x f = lt-of-lt-of-le (f .maskFits) (pow-mono {i = attributes g x} {j = 8} (f .attributesFit))
+
+    pub mask-at : (n i x m : ℕ) → n ≡ lengthAt g p → i < n → x ≡ getD g (p + 2 + i) 0 → m ≡ mask g x → m < 256
+    mask-at n i x m e h d k = subst (λ (b : ℕ). b < 256) (sym k) (mask-small x (formed-at i x (omega arith) d))
 
     -- The left side's block alone, the block of one more position on the right, which is b of the symbol there, and the end of the rule.
     module _ (f : ℕ → Bool) where
@@ -165,51 +187,65 @@ module _ (g : List ℕ) (p : ℕ) where
           ∙ (ap (λ (j : ℕ). collect (8 * (j + 1)) f) q
           ∙ sym (collect-rest (8 * (lengthAt g p + 1)) 64 f (omega (arith, shape .short)) none))
 
-    pub occurrences-start : (x s : ℕ) → x ≡ getD g p 0 → s ≡ below (attributes g x) → s ≡ collect (8 * (0 + 1)) (λ o. occurrenceFrom g p o)
+    pub occurrences-start : (n x s : ℕ) → x ≡ getD g p 0 → s ≡ below (attributes g x) → Filled (occurrenceFrom g p) n 0 s
     unfolding symbolFrom
-    occurrences-start x s d e =
-        first-block (λ o. occurrenceFrom g p o) s
-        (subst (λ (y : ℕ). y < 256) (sym e) (below-small (attributes g x) (formed-left x d .attributesFit)))
-        (λ a l.
-        ap (bit a) (e ∙ ap (λ (y : ℕ). below (attributes g y)) d)
-        ∙ (bit-of-below (attributes g (getD g p 0)) a ∙ sym (ap number (occurrence-bit 0 a (omega arith) l))))
+    occurrences-start n x s d e =
+        record {
+          inside = omega arith;
+          holds =
+              first-block (λ o. occurrenceFrom g p o) s
+              (subst (λ (y : ℕ). y < 256) (sym e) (below-small (attributes g x) (attributes-left x d)))
+              (λ a l.
+              ap (bit a) (e ∙ ap (λ (y : ℕ). below (attributes g y)) d)
+              ∙ (bit-of-below (attributes g (getD g p 0)) a ∙ sym (ap number (occurrence-bit 0 a (omega arith) l))));
+        }
 
-    pub occurrences-more : (i x m q u s : ℕ) → i < lengthAt g p → s ≡ collect (8 * (i + 1)) (λ o. occurrenceFrom g p o)
-        → x ≡ getD g (p + 2 + i) 0 → m ≡ below (attributes g x) → q ≡ m * 2 ^ (8 * (i + 1)) → u ≡ union q s
-        → u ≡ collect (8 * (i + 1 + 1)) (λ o. occurrenceFrom g p o)
-    occurrences-more i x m q u s h k d e n w =
-        next-block (λ o. occurrenceFrom g p o) (λ y. below (attributes g y)) i x m q u s k d e n w
-        (below-small (attributes g x) (formed-at i x h d .attributesFit))
-        (λ a l. bit-of-below (attributes g (symbolFrom g p (i + 1))) a ∙ sym (ap number (occurrence-bit (i + 1) a (omega arith) l)))
+    pub occurrences-more : (n i x m q u s : ℕ) → n ≡ lengthAt g p → i < n → Filled (occurrenceFrom g p) n i s → x ≡ getD g (p + 2 + i) 0
+        → m ≡ below (attributes g x) → q ≡ m * 2 ^ (8 * (i + 1)) → u ≡ union q s → Filled (occurrenceFrom g p) n (i + 1) u
+    occurrences-more n i x m q u s c h k d e r w =
+        record {
+          inside = omega arith;
+          holds =
+              next-block (λ o. occurrenceFrom g p o) (λ y. below (attributes g y)) i x m q u s (k .holds) d e r w
+              (below-small (attributes g x) (attributes-at n i x c h d))
+              (λ a l.
+              bit-of-below (attributes g (symbolFrom g p (i + 1))) a ∙ sym (ap number (occurrence-bit (i + 1) a (omega arith) l)));
+        }
 
-    pub occurrences-end : (n i s : ℕ) → n ≡ lengthAt g p → i ≤ n → n ≤ i → s ≡ collect (8 * (i + 1)) (λ o. occurrenceFrom g p o)
-        → s ≡ occurrencesAt g p
+    pub occurrences-end : (n i s : ℕ) → n ≡ lengthAt g p → n ≤ i → Filled (occurrenceFrom g p) n i s → s ≡ occurrencesAt g p
     unfolding occurrencesAt
-    occurrences-end n i s e h l k = last-block (λ o. occurrenceFrom g p o) n i s e h l k past
+    occurrences-end n i s e l k = last-block (λ o. occurrenceFrom g p o) n i s e (k .inside) l (k .holds) past
 
-    pub definings-start : (x t m s : ℕ) → x ≡ getD g p 0 → t ≡ below (attributes g x) → m ≡ mask g x → s ≡ minus t m
-        → s ≡ collect (8 * (0 + 1)) (λ o. definingFrom g p o)
+    pub definings-start : (n x t m s : ℕ) → x ≡ getD g p 0 → t ≡ below (attributes g x) → m ≡ mask g x → s ≡ minus t m
+        → Filled (definingFrom g p) n 0 s
     unfolding symbolFrom
-    definings-start x t m s d e k w =
+    definings-start n x t m s d e k w =
         let is : s ≡ minus (below (attributes g (getD g p 0))) (mask g (getD g p 0)) =
         w ∙ (ap₂ minus e k ∙ ap (λ (y : ℕ). minus (below (attributes g y)) (mask g y)) d) in
         let left : SymbolFormed g (getD g p 0) = formed-left (getD g p 0) refl in
-        first-block (λ o. definingFrom g p o) s
-        (subst (λ (y : ℕ). y < 256) (sym is)
-        (minus-lt 8 (below (attributes g (getD g p 0))) (mask g (getD g p 0)) (below-small (attributes g (getD g p 0)) (left .attributesFit))))
-        (λ a l.
-        ap (bit a) is
-        ∙ (bit-of-rest (attributes g (getD g p 0)) (mask g (getD g p 0)) a (left .maskFits)
-        ∙ sym (ap number (defining-bit 0 a (omega arith) l))))
+        record {
+          inside = omega arith;
+          holds =
+              first-block (λ o. definingFrom g p o) s
+              (subst (λ (y : ℕ). y < 256) (sym is)
+              (minus-lt 8 (below (attributes g (getD g p 0))) (mask g (getD g p 0)) (below-small (attributes g (getD g p 0)) (left .attributesFit))))
+              (λ a l.
+              ap (bit a) is
+              ∙ (bit-of-rest (attributes g (getD g p 0)) (mask g (getD g p 0)) a (left .maskFits)
+              ∙ sym (ap number (defining-bit 0 a (omega arith) l))));
+        }
 
-    pub definings-more : (i x m q u s : ℕ) → i < lengthAt g p → s ≡ collect (8 * (i + 1)) (λ o. definingFrom g p o)
-        → x ≡ getD g (p + 2 + i) 0 → m ≡ mask g x → q ≡ m * 2 ^ (8 * (i + 1)) → u ≡ union q s
-        → u ≡ collect (8 * (i + 1 + 1)) (λ o. definingFrom g p o)
-    definings-more i x m q u s h k d e n w =
-        next-block (λ o. definingFrom g p o) (mask g) i x m q u s k d e n w (mask-small x (formed-at i x h d))
-        (λ a l.
-        bit-of-mask (attributes g (symbolFrom g p (i + 1))) (mask g (symbolFrom g p (i + 1))) a (shape .formed (i + 1) (omega arith) .maskFits)
-        ∙ sym (ap number (defining-bit (i + 1) a (omega arith) l ∙ inner a)))
+    pub definings-more : (n i x m q u s : ℕ) → n ≡ lengthAt g p → i < n → Filled (definingFrom g p) n i s → x ≡ getD g (p + 2 + i) 0
+        → m ≡ mask g x → q ≡ m * 2 ^ (8 * (i + 1)) → u ≡ union q s → Filled (definingFrom g p) n (i + 1) u
+    definings-more n i x m q u s c h k d e r w =
+        record {
+          inside = omega arith;
+          holds =
+              next-block (λ o. definingFrom g p o) (mask g) i x m q u s (k .holds) d e r w (mask-small x (formed-at i x (omega arith) d))
+              (λ a l.
+              bit-of-mask (attributes g (symbolFrom g p (i + 1))) (mask g (symbolFrom g p (i + 1))) a (shape .formed (i + 1) (omega arith) .maskFits)
+              ∙ sym (ap number (defining-bit (i + 1) a (omega arith) l ∙ inner a)));
+        }
       where
         inner : (a : ℕ) → (ltb a (attributes g (symbolFrom g p (i + 1)))
             and cond (eqb (i + 1) 0) (not (inherited g (symbolFrom g p (i + 1)) a)) (inherited g (symbolFrom g p (i + 1)) a))
@@ -219,7 +255,6 @@ module _ (g : List ℕ) (p : ℕ) where
             and cond t (not (inherited g (symbolFrom g p (i + 1)) a)) (inherited g (symbolFrom g p (i + 1)) a))
             (ne-eqb (i + 1) 0 (λ z. omega arith))
 
-    pub definings-end : (n i s : ℕ) → n ≡ lengthAt g p → i ≤ n → n ≤ i → s ≡ collect (8 * (i + 1)) (λ o. definingFrom g p o)
-        → s ≡ definingsAt g p
+    pub definings-end : (n i s : ℕ) → n ≡ lengthAt g p → n ≤ i → Filled (definingFrom g p) n i s → s ≡ definingsAt g p
     unfolding definingsAt
-    definings-end n i s e h l k = last-block (λ o. definingFrom g p o) n i s e h l k past-defining
+    definings-end n i s e l k = last-block (λ o. definingFrom g p o) n i s e (k .inside) l (k .holds) past-defining

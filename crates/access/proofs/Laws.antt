@@ -137,9 +137,6 @@ pub class-of : (g : List ℕ) (x y : ℕ) (u : Bool)
     → u ≡ (nonterminal g x and eqb (mask g x) 0) → x ≡ y → u ≡ (nonterminal g y and eqb (mask g y) 0)
 class-of g x y u e d = e ∙ ap (λ (z : ℕ). nonterminal g z and eqb (mask g z) 0) d
 
-pub member-of : (s x y : ℕ) (u : Bool) → u ≡ hasb x s → x ≡ y → u ≡ hasb y s
-member-of s x y u e d = e ∙ ap (λ (z : ℕ). hasb z s) d
-
 pub fits-of : (b : Bool) (s x y : ℕ) (u : Bool) → u ≡ (b or hasb x s) → x ≡ y → u ≡ (b or hasb y s)
 fits-of b s x y u e d = e ∙ ap (λ (z : ℕ). b or hasb z s) d
 
@@ -184,6 +181,10 @@ symbol-right g p zero v d h = absurd (d refl)
 symbol-right g p (suc i) v d h =
     let e : p + 1 + suc i ≡ p + 2 + i = omega arith in
     h ∙ ap (λ (q : ℕ). getD g q 0) e
+
+-- the number of functions stands after a right side of length n
+pub count-at : (g : List ℕ) (p n v : ℕ) → n ≡ lengthAt g p → v ≡ getD g (p + 2 + n) 0 → v ≡ functionsAt g p
+count-at g p n v d e = e ∙ ap (λ (m : ℕ). getD g (p + 2 + m) 0) d
 
 -- past the width a set has no member
 pub member-past : (o s : ℕ) → s < 2 ^ 64 → 64 ≤ o → false ≡ hasb o s

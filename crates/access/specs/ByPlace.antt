@@ -2,7 +2,6 @@
 -- A reader knows the places and keeps occurrences as sets; proofs/Same.antt shows that this says what grammar's Reading says.
 -- Computed: no demand rests on it. Assumes nothing.
 use Prim.Native.Nat.{ℕ, zero, suc, _+_, _≤_, _<_}
-use mathlib.Core.Path.{_≡_}
 use mathlib.Core.Bool.{Bool, cond, not}
 use mathlib.Core.List.{List}
 use lib.Dec.{ltb, leb, eqb}
@@ -11,7 +10,6 @@ use Rattle.basics.specs.Lists.{word}
 use Rattle.bits.specs.Bit.{hasb, collect, remove}
 use Rattle.refusals.specs.declared.Refusal.the-variants.{WrongClass, NoOccurrence, NotDefining, Undefined}
 use Rattle.grammar.specs.declared.Verdict.{Verdict}
-use Rattle.grammar.specs.declared.Verdict.the-variants.{Good}
 use Rattle.grammar.specs.Limits.{longestRight, mostFunctions, lastOperation, mostOccurrences}
 use Rattle.grammar.specs.Table.{symbols, attributes, nonterminal, inherited, argumentWords, isConstant, lengthAt, functionAt, functionsAt, position, attribute}
 use Rattle.grammar.specs.Verdicts.{_then_, unless, each}
@@ -106,9 +104,3 @@ nextRule g p = functionAt g p (functionsAt g p)
 
 abbrev pub leaves : List ℕ → ℕ → ℕ
 leaves g p = undefinedAfter g p (functionsAt g p) (definingsAt g p)
-
--- what reading the rule at word p hands on, where the verdict v is good
-pub record Handed (g : List ℕ) (p : ℕ) (v : Verdict) (next undefined : ℕ) : Type 0 where
-  pub goes : v ≡ Good → next ≡ nextRule g p
-  pub left : v ≡ Good → undefined ≡ leaves g p
-  pub near : v ≡ Good → next ≤ p + 394

@@ -1,3 +1,5 @@
+pub mod ChainLaws
+pub mod WholeLaws
 pub mod FunctionLoop
 pub mod RuleLaws
 pub mod RuleLoop

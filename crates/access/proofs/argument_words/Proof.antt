@@ -1,4 +1,4 @@
--- `reader::argument_words` meets its contract: each branch has decided the definition's tests up to its own. Assumes nothing.
+-- `access::argument_words` meets its contract: each branch has decided the definition's tests up to its own. Assumes nothing.
 use native.Mathlib.Omega.{arith}
 use borrow.Author.Tests.{le-leb, lt-leb, eq-eqb, ne-eqb}
 use Rattle.grammar.specs.Table.{argumentWords}

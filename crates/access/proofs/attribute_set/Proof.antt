@@ -1,4 +1,4 @@
--- `reader::attribute_set` meets its contract: the attributes of a symbol are the numbers below their count. Assumes nothing.
+-- `access::attribute_set` meets its contract: the attributes of a symbol are the numbers below their count. Assumes nothing.
 use mathlib.Core.Path.{_∙_, ap}
 use borrow.Author.Needs.{needs}
 use Rattle.bits.specs.Bit.{below}

@@ -1,4 +1,4 @@
--- `reader::attributes` meets its contract: the view names the very word that is read. Assumes nothing.
+-- `access::attributes` meets its contract: the view names the very word that is read. Assumes nothing.
 use borrow.Author.Needs.{needs}
 use Rattle.grammar.specs.Table.{attributes}
 use Rattle.access.proofs.attributes.Statement.{statement}

@@ -1,4 +1,4 @@
--- `reader::first_function` meets its contract: the first function stands after the count. Assumes nothing.
+-- `access::first_function` meets its contract: the first function stands after the count. Assumes nothing.
 use native.Mathlib.Omega.{arith}
 use borrow.Author.Needs.{needs}
 use Rattle.grammar.specs.Table.{functionAt}

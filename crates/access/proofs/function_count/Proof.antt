@@ -1,8 +1,6 @@
--- `reader::function_count` meets its contract: the count stands after the right side, whose length was read. Assumes nothing.
-use Prim.Native.Nat.{ℕ, _+_}
-use mathlib.Core.Path.{_∙_, ap}
-use lib.ListN.{getD}
+-- `access::function_count` meets its contract: the count stands after the right side, whose length was read. Assumes nothing.
 use borrow.Author.Needs.{needs}
+use Rattle.access.proofs.Laws.{count-at}
 use Rattle.access.proofs.function_count.Statement.{statement}
 use Rattle.access.proofs.function_count.Tie as tie
 
@@ -19,11 +17,7 @@ word-requires : tie.Need-word-requires
 word-requires c κs = search needs
 
 returns : tie.Need-returns
-returns c = (
-  (c .word .ensures .0) ∙ ap (λ (n : ℕ). getD (c .before .before .before .args .words .now) ((c .before .before .before .args .p) + 2 +
-      n) 0) (c .before .right-length .ensures .0),
-  (c .word .ensures .1),
-)
+returns c = (search count-at, search needs)
 
 pub function-count-spec : {M : Type 1} → statement M
 function-count-spec =

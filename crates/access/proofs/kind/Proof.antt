@@ -1,4 +1,4 @@
--- `reader::kind` meets its contract: the view names the very word that is read. Assumes nothing.
+-- `access::kind` meets its contract: the view names the very word that is read. Assumes nothing.
 use borrow.Author.Needs.{needs}
 use Rattle.grammar.specs.Table.{kind}
 use Rattle.access.proofs.kind.Statement.{statement}

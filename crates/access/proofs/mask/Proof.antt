@@ -1,4 +1,4 @@
--- `reader::mask` meets its contract: the view names the very word that is read. Assumes nothing.
+-- `access::mask` meets its contract: the view names the very word that is read. Assumes nothing.
 use borrow.Author.Needs.{needs}
 use Rattle.grammar.specs.Table.{mask}
 use Rattle.access.proofs.mask.Statement.{statement}

@@ -1,4 +1,4 @@
--- `reader::next_function` meets its contract: a function is two words and the argument words of its operation. Assumes nothing.
+-- `access::next_function` meets its contract: a function is two words and the argument words of its operation. Assumes nothing.
 use mathlib.Core.Path.{_∙_, ap}
 use native.Mathlib.Omega.{arith}
 use borrow.Author.Needs.{needs}

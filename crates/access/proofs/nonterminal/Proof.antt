@@ -1,4 +1,4 @@
--- `reader::nonterminal` meets its contract: it tests the kind that was read. Assumes nothing.
+-- `access::nonterminal` meets its contract: it tests the kind that was read. Assumes nothing.
 use Prim.Native.Nat.{ℕ}
 use mathlib.Core.Path.{ap}
 use lib.Dec.{eqb}

@@ -1,4 +1,4 @@
--- `reader::placed` meets its contract: eight bits shifted by at most 56 stay within 64, so nothing is lost. Assumes nothing.
+-- `access::placed` meets its contract: eight bits shifted by at most 56 stay within 64, so nothing is lost. Assumes nothing.
 use Prim.Native.Nat.{_*_}
 use native.Mathlib.Omega.{arith}
 use lib.Pow.{shl-exact}

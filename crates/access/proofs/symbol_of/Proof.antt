@@ -1,4 +1,4 @@
--- `reader::symbol_of` meets its contract: position 0 is the rule's first word, and position i above it the word at p + 1 + i. Assumes nothing.
+-- `access::symbol_of` meets its contract: position 0 is the rule's first word, and position i above it the word at p + 1 + i. Assumes nothing.
 use borrow.Author.Needs.{needs}
 use Rattle.access.proofs.Laws.{symbol-left, symbol-right}
 use Rattle.access.proofs.symbol_of.Statement.{statement}

@@ -1,4 +1,4 @@
--- `reader::word` meets its contract: a word that is there fits 16 bits, and past the end stands 0. Assumes nothing.
+-- `access::word` meets its contract: a word that is there fits 16 bits, and past the end stands 0. Assumes nothing.
 use mathlib.Core.Path.{refl}
 use native.Mathlib.Omega.{arith}
 use borrow.Author.Needs.{needs}
