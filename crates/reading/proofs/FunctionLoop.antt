@@ -17,7 +17,7 @@ use Rattle.grammar.specs.declared.Verdict.{Verdict}
 use Rattle.grammar.specs.declared.Verdict.the-variants.{Good, Refused}
 use Rattle.grammar.specs.Table.{functionAt, functionsAt}
 use Rattle.grammar.specs.Verdicts.{each}
-use Rattle.grammar.proofs.AcceptedTable.{ranged-there}
+use Rattle.grammar.proofs.AcceptedSymbols.{ranged-there}
 use Rattle.grammar.proofs.VerdictLaws.{then-first, then-second, unless-passes}
 use Rattle.access.specs.ByPlace.{nextFunction, functionFrom, undefinedAfter, functionsFrom}
 use Rattle.access.proofs.Laws.{refused-good, each-none, each-more, each-stop, each-end, member-past}

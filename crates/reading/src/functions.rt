@@ -1,6 +1,5 @@
 // The functions of a rule. A function has six words at most: where they are all there it is tested as a whole, with no test of an end.
 // Only where that fails, or at the end of the table, is it looked at word by word, for the place of its first fault.
-use super::words::known_word;
 use super::words::member;
 use super::words::present;
 use super::words::ranged;
@@ -47,10 +46,10 @@ fn arguments_pass(words: &[u16], f: usize, op: usize, occurrences: u64) -> bool
     if op == 0 {
         return true;
     }
-    let a = known_word(words, f + 2);
-    let b = known_word(words, f + 3);
-    let c = known_word(words, f + 4);
-    let d = known_word(words, f + 5);
+    let a = access::known(words, f + 2);
+    let b = access::known(words, f + 3);
+    let c = access::known(words, f + 4);
+    let d = access::known(words, f + 5);
     if op == 1 {
         return four_occur(occurrences, a, a, a, a);
     }
@@ -78,10 +77,10 @@ fn passes(words: &[u16], f: usize, occurrences: u64, undefined: u64) -> bool
     requires { ⌜ f + 6 ≤ length (now words) ⌝ }
     ensures { λ r. ⌜ (r ≡ true → places.functionFrom (now (words .entry)) f occurrences undefined ≡ verdict.Good) ⌝ }
 {
-    if !may_define(occurrences, undefined, known_word(words, f)) {
+    if !may_define(occurrences, undefined, access::known(words, f)) {
         return false;
     }
-    let op = known_word(words, f + 1);
+    let op = access::known(words, f + 1);
     if op > 8 {
         return false;
     }
@@ -185,7 +184,7 @@ fn function_after(words: &[u16], f: usize) -> usize
     requires { ⌜ (f < 1000000) × (f + 1 < length (now words)) ⌝ }
     ensures { λ r. ⌜ (r ≡ places.nextFunction (now (words .entry)) f) × (r ≤ f + 6) ⌝ }
 {
-    f + 2 + access::argument_words(known_word(words, f + 1))
+    f + 2 + access::argument_words(access::known(words, f + 1))
 }
 
 // What reading a rule hands on: where the next one starts, and the defining occurrences that got no function.
@@ -220,7 +219,7 @@ pub fn functions_fault(words: &[u16], p: usize, occurrences: u64, defining: u64)
         let Verdict::Good = fault else {
             return stopped(fault);
         };
-        undefined = bits::without(undefined, known_word(words, f));
+        undefined = bits::without(undefined, access::known(words, f));
         f = function_after(words, f);
     }
     Rule {

@@ -1,7 +1,6 @@
 // Reading a grammar table: the verdict with refusals 1 to 7, in one walk over the words.
 // `words` tests single words, `symbols` what stands before the rules, `functions` and `rules` the rest; a rule and a function are handed on as the word
 // they start at, and specs/ByPlace.antt of access says the tests of each by that word.
-use functions::Rule;
 use grammar::MOST_RULES;
 use grammar::Offsets;
 use grammar::Verdict;

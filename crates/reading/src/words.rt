@@ -4,26 +4,10 @@ use refusals::Refusal;
 ghost use mathlib.Core.Path.{_≡_};
 ghost use Prim.Native.Nat.{_<_};
 ghost use lib.Dec.{leb};
-ghost use lib.ListN.{length};
 ghost use Rattle.bits.specs.Bit as bit;
 ghost use Rattle.basics.specs.Tests.{_and_};
-ghost use Rattle.basics.specs.Lists.{word};
 ghost use Rattle.grammar.specs.Verdicts.{unless};
 ghost use Rattle.grammar.specs.Reading as reading;
-
-fn wide(x: u16) -> usize
-    ensures { λ r. ⌜ (r ≡ x) × (r < 65536) ⌝ }
-{
-    x as usize
-}
-
-// A word that is there, so that its place needs no test.
-pub fn known_word(words: &[u16], p: usize) -> usize
-    requires { ⌜ p < length (now words) ⌝ }
-    ensures { λ r. ⌜ r ≡ word (now (words .entry)) p ⌝ }
-{
-    wide(words[p])
-}
 
 // Whether o is a member of the set, for any number o.
 pub fn member(set: u64, o: usize) -> bool

@@ -8,29 +8,29 @@ use Rattle.reading.proofs.functions.arguments_pass.Tie as tie
 returns : tie.Need-returns
 returns c = search constant-there
 
-add-known-word : tie.Need-add-known-word
-add-known-word c = search needs
+add-known : tie.Need-add-known
+add-known c = search needs
 
-known-word-requires : tie.Need-known-word-requires
-known-word-requires c κs = search needs
+known-requires : tie.Need-known-requires
+known-requires c κs = search needs
 
-add-known-word-2 : tie.Need-add-known-word-2
-add-known-word-2 c = search needs
+add-known-2 : tie.Need-add-known-2
+add-known-2 c = search needs
 
-known-word-requires-2 : tie.Need-known-word-requires-2
-known-word-requires-2 c κs = search needs
+known-requires-2 : tie.Need-known-requires-2
+known-requires-2 c κs = search needs
 
-add-known-word-3 : tie.Need-add-known-word-3
-add-known-word-3 c = search needs
+add-known-3 : tie.Need-add-known-3
+add-known-3 c = search needs
 
-known-word-requires-3 : tie.Need-known-word-requires-3
-known-word-requires-3 c κs = search needs
+known-requires-3 : tie.Need-known-requires-3
+known-requires-3 c κs = search needs
 
-add-known-word-4 : tie.Need-add-known-word-4
-add-known-word-4 c = search needs
+add-known-4 : tie.Need-add-known-4
+add-known-4 c = search needs
 
-known-word-requires-4 : tie.Need-known-word-requires-4
-known-word-requires-4 c κs = search needs
+known-requires-4 : tie.Need-known-requires-4
+known-requires-4 c κs = search needs
 
 four-occur-requires : tie.Need-four-occur-requires
 four-occur-requires c κs = search needs
@@ -61,14 +61,14 @@ arguments-pass-spec =
     tie.close
     (tie.spec
     returns
-    add-known-word
-    known-word-requires
-    add-known-word-2
-    known-word-requires-2
-    add-known-word-3
-    known-word-requires-3
-    add-known-word-4
-    known-word-requires-4
+    add-known
+    known-requires
+    add-known-2
+    known-requires-2
+    add-known-3
+    known-requires-3
+    add-known-4
+    known-requires-4
     four-occur-requires
     returns-2
     four-occur-requires-2

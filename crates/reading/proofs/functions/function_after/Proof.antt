@@ -7,11 +7,11 @@ use Rattle.reading.proofs.functions.function_after.Tie as tie
 add-result : tie.Need-add-result
 add-result c = search needs
 
-add-known-word : tie.Need-add-known-word
-add-known-word c = search needs
+add-known : tie.Need-add-known
+add-known c = search needs
 
-known-word-requires : tie.Need-known-word-requires
-known-word-requires c κs = search needs
+known-requires : tie.Need-known-requires
+known-requires c κs = search needs
 
 argument-words-requires : tie.Need-argument-words-requires
 argument-words-requires c κs = search needs
@@ -27,8 +27,8 @@ function-after-spec =
     tie.close
     (tie.spec
     add-result
-    add-known-word
-    known-word-requires
+    add-known
+    known-requires
     argument-words-requires
     add-result-2
     returns)

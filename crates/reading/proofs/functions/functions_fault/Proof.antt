@@ -37,8 +37,8 @@ stopped-requires c κs = search needs
 returns : tie.Need-returns Inv-loop μ-loop
 returns c = search stop
 
-known-word-requires : tie.Need-known-word-requires Inv-loop μ-loop
-known-word-requires c κs = search target-there
+known-requires : tie.Need-known-requires Inv-loop μ-loop
+known-requires c κs = search target-there
 
 without-requires : tie.Need-without-requires Inv-loop μ-loop
 without-requires c κs = search (target-fits, needs)
@@ -72,7 +72,7 @@ functions-fault-spec =
     enum-told-2
     stopped-requires
     returns
-    known-word-requires
+    known-requires
     without-requires
     function-after-requires
     add-k

@@ -5,8 +5,8 @@ use Rattle.reading.proofs.WholeLaws.{nothing-claimed, function-passes}
 use Rattle.reading.proofs.functions.passes.Statement.{statement}
 use Rattle.reading.proofs.functions.passes.Tie as tie
 
-known-word-requires : tie.Need-known-word-requires
-known-word-requires c κs = search needs
+known-requires : tie.Need-known-requires
+known-requires c κs = search needs
 
 may-define-requires : tie.Need-may-define-requires
 may-define-requires c κs = search needs
@@ -14,11 +14,11 @@ may-define-requires c κs = search needs
 returns : tie.Need-returns
 returns c = search nothing-claimed
 
-add-known-word : tie.Need-add-known-word
-add-known-word c = search needs
+add-known : tie.Need-add-known
+add-known c = search needs
 
-known-word-requires-2 : tie.Need-known-word-requires-2
-known-word-requires-2 c κs = search needs
+known-requires-2 : tie.Need-known-requires-2
+known-requires-2 c κs = search needs
 
 returns-2 : tie.Need-returns-2
 returns-2 c = search nothing-claimed
@@ -33,11 +33,11 @@ pub passes-spec : {M : Type 1} → statement M
 passes-spec =
     tie.close
     (tie.spec
-    known-word-requires
+    known-requires
     may-define-requires
     returns
-    add-known-word
-    known-word-requires-2
+    add-known
+    known-requires-2
     returns-2
     arguments-pass-requires
     returns-3)
