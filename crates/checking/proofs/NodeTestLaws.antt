@@ -57,12 +57,12 @@ module _ (g : List ℕ) (good : readTable g ≡ Good) where
   rule-room r h = omega (arith, formed .ends, rule-step g r, rules-rise g (suc r) (rules g) h)
 
 -- 13
-pub known-rule : (g t : List ℕ) (n r m : ℕ) → r ≡ getD t (8 * n) 0 → r < terminalMark → m ≡ getD g 1 0 → ltb r m ≡ knownWord g t n
+pub known-rule : (g t : List ℕ) (n r m : ℕ) → r ≡ getD t (8 * n) 0 → r < terminalMark → m ≡ rules g → ltb r m ≡ knownWord g t n
 unfolding knownWord
 known-rule g t n r m e h f =
     ap₂ ltb e f ∙ sym (chosen (appliesRule t n) _ _ (lt→ltb (ruleOf t n) terminalMark (subst (λ (x : ℕ). x < terminalMark) e h)))
 
-pub known-terminal : (g t : List ℕ) (n r m : ℕ) (u : Bool) → r ≡ getD t (8 * n) 0 → terminalMark ≤ r → m ≡ getD g 0 0 → r - terminalMark < m
+pub known-terminal : (g t : List ℕ) (n r m : ℕ) (u : Bool) → r ≡ getD t (8 * n) 0 → terminalMark ≤ r → m ≡ symbols g → r - terminalMark < m
     → u ≡ nonterminal g (r - terminalMark) → not u ≡ knownWord g t n
 unfolding knownWord
 known-terminal g t n r m u e h f l q =
@@ -71,7 +71,7 @@ known-terminal g t n r m u e h f l q =
     ∙ (sym (and-passed (ltb (ruleOf t n - terminalMark) (symbols g)) _ (lt→ltb _ _ (subst (λ (x : ℕ). ruleOf t n - terminalMark < x) f (subst (λ (x : ℕ). x - terminalMark < m) e l))))
     ∙ sym (passed-over (appliesRule t n) _ _ (false-T _ (le-ltb (ruleOf t n) terminalMark (subst (λ (x : ℕ). terminalMark ≤ x) e h))))))
 
-pub known-nothing : (g t : List ℕ) (n r m : ℕ) → r ≡ getD t (8 * n) 0 → terminalMark ≤ r → m ≡ getD g 0 0 → m ≤ r - terminalMark → false ≡ knownWord g t n
+pub known-nothing : (g t : List ℕ) (n r m : ℕ) → r ≡ getD t (8 * n) 0 → terminalMark ≤ r → m ≡ symbols g → m ≤ r - terminalMark → false ≡ knownWord g t n
 unfolding knownWord
 known-nothing g t n r m e h f l =
     sym (passed-over (appliesRule t n) _ _ (false-T _ (le-ltb (ruleOf t n) terminalMark (subst (λ (x : ℕ). terminalMark ≤ x) e h)))

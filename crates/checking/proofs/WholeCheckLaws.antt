@@ -7,7 +7,6 @@ use mathlib.Core.Bool.{Bool, true, false}
 use mathlib.Core.List.{List}
 use native.Mathlib.Omega.{arith}
 use lib.Dec.{T, leb, leb→le, le→leb, ltb→lt}
-use lib.ListN.{getD}
 use borrow.Author.Tests.{le-leb, lt-leb, eq-eqb, ne-eqb}
 use Rattle.basics.proofs.TestLaws.{and-left, and-right, true-T, chosen, passed-over, tested, all-at}
 use Rattle.refusals.specs.declared.Refusal.{Refusal}
@@ -145,7 +144,7 @@ past-13 : (g t : List ℕ) (v : ℕ) (u : Bool) (w : Verdict) → u ≡ sizeFits
 past-13 g t v u w e f h q = past-12 g t v u e f ∙ good-then (each (nodes t) (λ n. nodeFault g t n)) (from-15 g t v) (sym h ∙ q)
 
 pub answer-15 : (g t : List ℕ) (v : ℕ) (u : Bool) (w : Verdict) (x y : ℕ) → u ≡ sizeFits t → u ≡ true → w ≡ each (nodes t) (λ n. nodeFault g t n)
-    → w ≡ Good → x ≡ symbolAtNode g t 0 → y ≡ getD g 2 0 → (x ≡ y → ⊥) → Refused RootNotStart ≡ checkTree g t v
+    → w ≡ Good → x ≡ symbolAtNode g t 0 → y ≡ start g → (x ≡ y → ⊥) → Refused RootNotStart ≡ checkTree g t v
 unfolding rootIsStart
 answer-15 g t v u w x y e f h q i j n =
     sym (past-13 g t v u w e f h q
@@ -153,7 +152,7 @@ answer-15 g t v u w x y e f h q i j n =
     (unless-not _ _ (ne-eqb (symbolAtNode g t 0) (start g) (λ z. n (i ∙ (z ∙ sym j))))))
 
 past-15 : (g t : List ℕ) (v : ℕ) (u : Bool) (w : Verdict) (x y : ℕ) → u ≡ sizeFits t → u ≡ true → w ≡ each (nodes t) (λ n. nodeFault g t n)
-    → w ≡ Good → x ≡ symbolAtNode g t 0 → y ≡ getD g 2 0 → x ≡ y → checkTree g t v ≡ from-16 g t v
+    → w ≡ Good → x ≡ symbolAtNode g t 0 → y ≡ start g → x ≡ y → checkTree g t v ≡ from-16 g t v
 unfolding rootIsStart
 past-15 g t v u w x y e f h q i j s =
     past-13 g t v u w e f h q
@@ -166,7 +165,7 @@ pub record Passed15 (g t : List ℕ) (v : ℕ) : Type 0 where
       then each (nodes t) (λ n. unless (onceChild g t n) (NotOneParent n)) then unless (leb (valueWords t) v) ValuesTooShort)
 
 pub passed-15 : (g t : List ℕ) (v : ℕ) (u : Bool) (w : Verdict) (x y : ℕ) → u ≡ sizeFits t → u ≡ true → w ≡ each (nodes t) (λ n. nodeFault g t n)
-    → w ≡ Good → x ≡ symbolAtNode g t 0 → y ≡ getD g 2 0 → x ≡ y → Passed15 g t v
+    → w ≡ Good → x ≡ symbolAtNode g t 0 → y ≡ start g → x ≡ y → Passed15 g t v
 passed-15 g t v u w x y e f h q i j s = record { rest = past-15 g t v u w x y e f h q i j s }
 
 children-same : (g t : List ℕ) → each (nodes t) (λ n. childrenFault g t n) ≡ each (nodes t) (λ n. unless (childrenFit g t n) (ChildDiffers n))

@@ -1,5 +1,6 @@
 // What is left of one rule's visit-sequence (000, section 6.3), whoever orders its actions: what is left before the first action, which
 // visit is ready, and what is left after an action. Three sets hold the actions, a fourth the occurrences that wait to be made available.
+use grammar::ROWS;
 ghost use mathlib.Core.Path.{_≡_};
 ghost use Prim.Native.Nat.{_+_, _*_, _-_, _/_, _%_, _≤_, _<_, max};
 ghost use Rattle.bits.specs.Bit as bit;
@@ -157,12 +158,12 @@ pub fn start(words: &[u16], p: usize, sets: &[u16]) -> State
 }
 
 // What each of the visits takes along, found once a rule: the child's inherited attributes of that visit.
-pub fn taken_along(words: &[u16], p: usize, sets: &[u16], visits: u64) -> [u64; 64]
+pub fn taken_along(words: &[u16], p: usize, sets: &[u16], visits: u64) -> [u64; ROWS]
     requires { ⌜ p < 65536 ⌝ }
     requires { ⌜ masks.Children (now words) (now sets) p visits ⌝ }
     ensures { λ down. ⌜ masks.Along (now (words .entry)) (now (sets .entry)) p visits down ⌝ }
 {
-    let mut down = [0u64; 64];
+    let mut down = [0u64; ROWS];
     let mut left = visits;
     while left != 0 {
         let b = bits::first(left);
@@ -175,7 +176,7 @@ pub fn taken_along(words: &[u16], p: usize, sets: &[u16], visits: u64) -> [u64; 
 }
 
 // The visits that are ready: the next one of each child, where nothing that it takes along waits.
-pub fn ready_visits(down: &[u64; 64], visits: u64, waiting: u64) -> u64
+pub fn ready_visits(down: &[u64; ROWS], visits: u64, waiting: u64) -> u64
     ensures { λ r. ⌜ r ≡ masks.readyVisits (now (down .entry)) visits waiting ⌝ }
 {
     let mut left = visits;

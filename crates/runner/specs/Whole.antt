@@ -1,11 +1,12 @@
 -- Document 01: what a whole run answers and leaves, for every table, tree, length of the buffers and budget.
 -- Computed: no demand rests on it. Assumes nothing.
-use Prim.Native.Nat.{ℕ, _+_, _*_, _≤_}
+use Prim.Native.Nat.{ℕ, _≤_}
 use mathlib.Core.Path.{_≡_}
 use mathlib.Core.List.{List}
 use lib.IntN.{ℤ}
 use lib.ListN.{length}
 use Rattle.grammar.specs.declared.Verdict.the-variants.{Good}
+use Rattle.grammar.specs.Limits.{planWords}
 use Rattle.grammar.specs.Table.{rules}
 use Rattle.grammar.specs.Reading.{readTable}
 use Rattle.access.specs.Offsets.{offsetsFor}
@@ -37,7 +38,7 @@ pub record Runnable (g offsets p : List ℕ) : Type 0 where
   pub good : readTable g ≡ Good
   pub starts : offsets ≡ offsetsFor g Good
   pub soundPlan : sound.Sound g p
-  pub long : 256 + 112 * rules g ≤ length p
+  pub long : planWords (rules g) ≤ length p
 
 -- what the check of the tree and the run of plan p answer and leave
 pub record Checked (g p t : List ℕ) (vs : List ℤ) (budget : ℕ) (report : Report) (vs′ : List ℤ) : Type 0 where

@@ -1,4 +1,5 @@
 // The whole job: plan a grammar, check a tree against it and run the visit-sequences over the tree (document 01, refusals 1 to 18).
+use grammar::Offsets;
 use grammar::Verdict;
 use plans::Planned;
 use runs::Ran;
@@ -9,7 +10,7 @@ ghost use Rattle.runner.specs.Whole as whole;
 // Checks the tree and runs a sound plan, whoever drew it up: what every run comes down to.
 pub fn run_sound(
     words: &[u16],
-    offsets: &[u16; 64],
+    offsets: &Offsets,
     plan: &[u16],
     tree: &[u16],
     values: &mut [i32],

@@ -1,6 +1,7 @@
 // The visit-sequence of one rule (000, section 6.3), written into the lent plan.
 // Of the actions that are left the lowest ready one is always next.
 use grammar::ROWS;
+use grammar::ROWS;
 use grammar::RULE_WORDS;
 use grammar::SET_WORDS;
 use remaining::State;
@@ -43,7 +44,7 @@ fn next(
     r: usize,
     sets: &[u16],
     rows: &[u64],
-    down: &[u64; 64],
+    down: &[u64; ROWS],
     state: State,
 ) -> Step
     requires { ⌜ given.RuleGiven (now words) (now sets) (now rows) p r ⌝ }
