@@ -13,7 +13,6 @@ use Rattle.refusals.specs.declared.Refusal.the-variants.{Undefined, LeftOver}
 use Rattle.grammar.specs.declared.Verdict.the-variants.{Good}
 use Rattle.grammar.specs.Limits.{mostOccurrences}
 use Rattle.grammar.specs.Table.{symbols, rules, start, kind, mask, nonterminal, ruleAt, rightLength, occurrence, defining, position}
-use Rattle.grammar.specs.Verdicts.{_then_, each}
 use Rattle.grammar.specs.Reading.{header, symbolFault, startClass, complete, ruleBefore, ruleFault, leftOver, readTable}
 use Rattle.grammar.specs.WellFormed.{RuleFormed, WellFormed}
 use Rattle.grammar.proofs.VerdictLaws.{then-first, then-second, unless-passes, each-at}
@@ -32,14 +31,33 @@ module _ (g : List ℕ) where
   occurrence-fits r o f t = omega (arith, leb→le (position o) (rightLength g r) (and-left _ _ t), f .lengthFits)
 
   module _ (good : readTable g ≡ Good) where
-    parts₁ : each (symbols g) (λ x. symbolFault g x) then startClass g then each (rules g) (λ r. ruleFault g r)
-        then ruleBefore g (rules g) then leftOver g ≡ Good
+    -- the parts of the table, in the order of reading
+    header-pass : header g ≡ Good
     unfolding readTable
-    parts₁ = then-second _ _ good
+    header-pass = then-first _ _ good
+
+    symbols-pass : (x : ℕ) → x < symbols g → symbolFault g x ≡ Good
+    unfolding readTable
+    symbols-pass x h = each-at (symbols g) (λ x. symbolFault g x) (then-first _ _ (then-second _ _ good)) x h
+
+    start-pass : startClass g ≡ Good
+    unfolding readTable
+    start-pass = then-first _ _ (then-second _ _ (then-second _ _ good))
 
     rules-pass : (r : ℕ) → r < rules g → ruleFault g r ≡ Good
-    rules-pass r h = each-at (rules g) (λ r. ruleFault g r) (then-first _ _ (then-second _ _ (then-second _ _ parts₁))) r h
+    unfolding readTable
+    rules-pass r h =
+        each-at (rules g) (λ r. ruleFault g r) (then-first _ _ (then-second _ _ (then-second _ _ (then-second _ _ good)))) r h
 
+    last-pass : ruleBefore g (rules g) ≡ Good
+    unfolding readTable
+    last-pass = then-first _ _ (then-second _ _ (then-second _ _ (then-second _ _ (then-second _ _ good))))
+
+    over-pass : leftOver g ≡ Good
+    unfolding readTable
+    over-pass = then-second _ _ (then-second _ _ (then-second _ _ (then-second _ _ (then-second _ _ good))))
+
+    -- each rule is complete: the next one's first word is read after it, and the last one is tested at the end
     all-complete : (r : ℕ) → r < rules g → complete g r ≡ true
     unfolding ruleFault ruleBefore
     all-complete r h =
@@ -48,20 +66,14 @@ module _ (g : List ℕ) where
         (λ l.
         let e : rules g ≡ suc r = omega arith in
         T-true _ (unless-passes (complete g r) (Undefined (ruleAt g (suc r)))
-        (subst (λ (n : ℕ). ruleBefore g n ≡ Good) e
-        (then-first _ _ (then-second _ _ (then-second _ _ (then-second _ _ parts₁)))))))
+        (subst (λ (n : ℕ). ruleBefore g n ≡ Good) e last-pass)))
         (below-or-not (suc r) (rules g))
-
-    first-part : header g ≡ Good
-    unfolding readTable
-    first-part = then-first _ _ good
 
     words-end : 1 ≤ rules g → length g ≡ ruleAt g (rules g)
     unfolding leftOver
     words-end h =
         let le : length g ≤ ruleAt g (rules g) =
-        leb→le _ _ (unless-passes (leb (length g) (ruleAt g (rules g))) (LeftOver (ruleAt g (rules g)))
-        (then-second _ _ (then-second _ _ (then-second _ _ (then-second _ _ parts₁))))) in
+        leb→le _ _ (unless-passes (leb (length g) (ruleAt g (rules g))) (LeftOver (ruleAt g (rules g))) over-pass) in
         go (rules g) h rules-pass le
       where
         go : (n : ℕ) → 1 ≤ n → ((r : ℕ) → r < n → ruleFault g r ≡ Good) → length g ≤ ruleAt g n → length g ≡ ruleAt g n
@@ -72,18 +84,18 @@ module _ (g : List ℕ) where
     pub accepted : WellFormed g
     unfolding startClass
     accepted =
-        let c : T (nonterminal g (start g) and eqb (mask g (start g)) 0) = unless-passes _ _ (then-first _ _ (then-second _ _ parts₁)) in
+        let c : T (nonterminal g (start g) and eqb (mask g (start g)) 0) = unless-passes _ _ start-pass in
         record {
-          someSymbols = header-symbols g first-part .0;
-          symbolsFit = header-symbols g first-part .1;
-          someRules = header-rules g first-part .0;
-          rulesFit = header-rules g first-part .1;
-          startFits = header-start g first-part;
-          symbol = λ x h. symbol-formed g x (each-at (symbols g) (λ x. symbolFault g x) (then-first _ _ parts₁) x h);
+          someSymbols = header-symbols g header-pass .0;
+          symbolsFit = header-symbols g header-pass .1;
+          someRules = header-rules g header-pass .0;
+          rulesFit = header-rules g header-pass .1;
+          startFits = header-start g header-pass;
+          symbol = λ x h. symbol-formed g x (symbols-pass x h);
           startNonterminal = eqb→eq (kind g (start g)) 0 (and-left _ _ c);
           startMask = eqb→eq (mask g (start g)) 0 (and-right _ _ c);
           rule = λ r h. rule-formed g r (rules-pass r h);
           function = λ r k h l. function-formed g r k (functions-pass g r (rules-pass r h) k l);
           defined = λ r o h d. rule-complete g r (all-complete r h) o d (occurrence-fits r o (rule-formed g r (rules-pass r h)) (defining-occurs r o d));
-          ends = words-end (header-rules g first-part .0);
+          ends = words-end (header-rules g header-pass .0);
         }

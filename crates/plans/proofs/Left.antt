@@ -1,7 +1,7 @@
 -- What planning answers and leaves, in the paper's terms: 9 leaves IDP paths, 10 EDP paths, and an accepted grammar leaves its EDP paths, its
 -- sets and the sequences of the tie rule. Assumes nothing.
 use Prim.Native.Nat.{ℕ, _<_}
-use mathlib.Core.Path.{_≡_, _∙_, subst, subst⁻¹}
+use mathlib.Core.Path.{_≡_, refl, _∙_, subst, subst⁻¹}
 use mathlib.Core.Logic.{⊎-elim, _↔_}
 use mathlib.Core.Bool.{Bool}
 use mathlib.Core.List.{List}
@@ -12,9 +12,9 @@ use Rattle.bits.specs.Bit.{bit, collect}
 use Rattle.bits.proofs.CollectLaws.{bit-collect-above}
 use Rattle.bits.proofs.MemberLaws.{hasb-collect}
 use Rattle.refusals.specs.declared.Refusal.{Refusal}
-use Rattle.grammar.specs.Limits.{mostOccurrences}
+use Rattle.grammar.specs.Limits.{mostOccurrences, planWords}
 use Rattle.grammar.specs.declared.Verdict.the-variants.{Good}
-use Rattle.grammar.specs.Table.{ruleCounts}
+use Rattle.grammar.specs.Table.{rules, ruleCounts}
 use Rattle.grammar.specs.Reading.{readTable}
 use Rattle.grammar.proofs.AcceptedTable.{accepted as well-formed}
 use Rattle.relations.specs.Paper.{IDP⁺}
@@ -29,11 +29,17 @@ use Rattle.order.specs.Paper.{PaperSets, CircularIDP}
 use Rattle.order.proofs.ExactEdp.{edp-path-exact, edp-to}
 use Rattle.order.proofs.WholeGrammar.{number-is, edp-paths-same}
 use Rattle.sequences.proofs.PaperSequence.{sequence-only}
+use Rattle.plans.specs.declared.Planned as P
 use Rattle.plans.specs.Buffers.{over, rowsOf}
-use Rattle.plans.specs.Answer.{circularIdp, unordered, accepted, idpPaths, edpPaths, acceptedPlan, rowsAfter, planAfter}
+use Rattle.plans.specs.Answer.{circularIdp, unordered, accepted, idpPaths, edpPaths, acceptedPlan, answerOf, rowsAfter, planAfter}
 use Rattle.plans.specs.Left.{RowsHold, EDP⁺, SequenceStands, Written}
 use Rattle.plans.proofs.RowWords.{over-row}
 use Rattle.plans.proofs.PlanWords.{numbers-same, sequence-stands}
+
+-- "An accepted plan returns 256 + 112R."
+pub accepted-answer : (g : List ℕ) → answerOf g accepted ≡ P.the-variants.Accepted (planWords (rules g))
+unfolding answerOf
+accepted-answer g = refl
 
 module _ (g : List ℕ) (good : readTable g ≡ Good) where
   -- rows that are collected from a test hold the relation that the test decides
