@@ -1,7 +1,6 @@
 // The visit-sequence of one rule (000, section 6.3), written into the lent plan.
 // Of the actions that are left the lowest ready one is always next.
 use grammar::ROWS;
-use grammar::ROWS;
 use grammar::RULE_WORDS;
 use grammar::SET_WORDS;
 use remaining::State;
