@@ -27,9 +27,9 @@ use Rattle.plans.proofs.PlanWords.{numbers-same, sequence-stands}
 use Rattle.runs.proofs.SameSets.{visits-same}
 use Rattle.text.specs.Lines.{decimal, spaced, line, symbolWord, ruleWord, planWord}
 use Rattle.text.specs.Listing.{firstLine, symbolLine, ruleLine, planText}
-use Rattle.lister.specs.Shown.{Shows, Adds, actionsOf, ruleLineOf, planLines}
+use Rattle.lister.specs.Shown.{Shows, Adds, setNumbers, symbolNumbers, actionsOf, ruleLineOf, planLines}
 use Rattle.lister.proofs.ShownLaws.{adds-none, adds-then, adds-same, from-start}
-use Rattle.lister.proofs.LineLaws.{numbers-turn, led-line, numbered-line, two-line}
+use Rattle.lister.proofs.LineLaws.{NumbersTo, numbers-turn, numbers-end, one-number, more-numbers, whole-line, two-line}
 
 -- the first line
 pub first-line-typed : {o o₁ o₂ o₃ o₄ : List ℕ} {a a₁ a₂ a₃ a₄ : ℕ} (g : List ℕ) (x y : ℕ) → x ≡ symbols g → y ≡ rules g
@@ -40,11 +40,15 @@ first-line-typed g x y ex ey w s t v =
     adds-same (ap₂ (λ (m n : ℕ). line planWord (m ∷ n ∷ [])) ex ey) (two-line x y w s t v)
 
 -- the line of a symbol
-pub set-turn : {o o₁ o₂ : List ℕ} {a a₁ a₂ : ℕ} (p : List ℕ) (x i n : ℕ) → n ≡ getD p (8 * x + i) 0
-    → Adds o a (spaced (tabulate i (λ k. setNumber p x k))) o₁ a₁ → Adds o₁ a₁ (32 ∷ decimal n) o₂ a₂
-    → Adds o a (spaced (tabulate (i + 1) (λ k. setNumber p x k))) o₂ a₂
+pub sets-turn : {o o₁ o₂ : List ℕ} {a a₁ a₂ : ℕ} (p : List ℕ) (x n i v : ℕ) → i < n → NumbersTo (setNumber p x) n o a i o₁ a₁
+    → Adds o₁ a₁ (32 ∷ decimal v) o₂ a₂ → v ≡ getD p (8 * x + i) 0 → NumbersTo (setNumber p x) n o a (i + 1) o₂ a₂
 unfolding setNumber
-set-turn p x i n e s t = numbers-turn (λ k. setNumber p x k) i n e s t
+sets-turn p x n i v h s t e = numbers-turn (setNumber p x) n i v h s t e
+
+pub sets-end : {o o₁ : List ℕ} {a a₁ : ℕ} (g p : List ℕ) (x n i : ℕ) → n ≡ attributes g x → n ≤ i → NumbersTo (setNumber p x) n o a i o₁ a₁
+    → Adds o a (spaced (setNumbers g p x)) o₁ a₁
+unfolding setNumbers
+sets-end g p x n i e h s = numbers-end (setNumber p x) n (attributes g x) i e h s
 
 pub symbol-skipped : (o g p : List ℕ) (a x : ℕ) (b : Bool) → b ≡ nonterminal g x → not b ≡ true → Adds o a (symbolLine g p x) o a
 unfolding symbolLine
@@ -55,32 +59,36 @@ not-false : (b : Bool) → not b ≡ false → T b
 not-false true e = tt
 not-false false e = false-T true e
 
-pub symbol-line-typed : {o o₁ o₂ o₃ o₄ o₅ : List ℕ} {a a₁ a₂ a₃ a₄ a₅ : ℕ} (g p : List ℕ) (x v i n : ℕ) (b : Bool) → b ≡ nonterminal g x → not b ≡ false
-    → v ≡ visits p x → n ≡ attributes g x → i ≤ n → n ≤ i → Adds o a (115 ∷ []) o₁ a₁
-    → Adds o₁ a₁ (32 ∷ decimal x) o₂ a₂ → Adds o₂ a₂ (32 ∷ decimal v) o₃ a₃ → Adds o₃ a₃ (spaced (tabulate i (λ k. setNumber p x k))) o₄ a₄
-    → Adds o₄ a₄ (10 ∷ []) o₅ a₅ → Adds o a (symbolLine g p x) o₅ a₅
-unfolding symbolLine
-symbol-line-typed g p x v i n b e t ev en l h w s u d f =
-    let same : i ≡ attributes g x = omega (arith, en) in
-    adds-same
-    (ap (λ (m : ℕ). line symbolWord (x ∷ m ∷ tabulate (attributes g x) (λ k. setNumber p x k))) ev
-    ∙ sym (chosen (nonterminal g x) _ _ (subst T e (not-false b t))))
-    (led-line x v i (attributes g x) (λ k. setNumber p x k) same w s u d f)
+pub symbol-numbers-typed : {o o₁ o₂ o₃ : List ℕ} {a a₁ a₂ a₃ : ℕ} (g p : List ℕ) (x v : ℕ) → Adds o a (32 ∷ decimal x) o₁ a₁
+    → Adds o₁ a₁ (32 ∷ decimal v) o₂ a₂ → Adds o₂ a₂ (spaced (setNumbers g p x)) o₃ a₃ → v ≡ visits p x
+    → Adds o a (spaced (symbolNumbers g p x)) o₃ a₃
+symbol-numbers-typed g p x v s t u e =
+    adds-same (ap (λ (m : ℕ). spaced (x ∷ m ∷ setNumbers g p x)) e)
+    (more-numbers (x ∷ v ∷ []) (setNumbers g p x) (more-numbers (x ∷ []) (v ∷ []) (one-number x s) (one-number v t)) u)
+
+pub symbol-line-typed : {o o₁ o₂ o₃ : List ℕ} {a a₁ a₂ a₃ : ℕ} (g p : List ℕ) (x : ℕ) (b : Bool) → not b ≡ false → b ≡ nonterminal g x
+    → Adds o a (115 ∷ []) o₁ a₁ → Adds o₁ a₁ (spaced (symbolNumbers g p x)) o₂ a₂ → Adds o₂ a₂ (10 ∷ []) o₃ a₃
+    → Adds o a (symbolLine g p x) o₃ a₃
+unfolding symbolLine setNumbers
+symbol-line-typed g p x b t e w s v =
+    adds-same (sym (chosen (nonterminal g x) _ _ (subst T e (not-false b t)))) (whole-line (symbolNumbers g p x) w s v)
 
 -- the line of a rule
-pub action-turn : {o o₁ o₂ : List ℕ} {a a₁ a₂ : ℕ} (p : List ℕ) (r j n : ℕ) → n ≡ getD p (256 + 112 * r + 1 + j) 0
-    → Adds o a (spaced (tabulate j (λ k. actionAt p r k))) o₁ a₁ → Adds o₁ a₁ (32 ∷ decimal n) o₂ a₂
-    → Adds o a (spaced (tabulate (j + 1) (λ k. actionAt p r k))) o₂ a₂
+pub actions-turn : {o o₁ o₂ : List ℕ} {a a₁ a₂ : ℕ} (p : List ℕ) (r n j v : ℕ) → j < n → NumbersTo (actionAt p r) n o a j o₁ a₁
+    → Adds o₁ a₁ (32 ∷ decimal v) o₂ a₂ → v ≡ getD p (256 + 112 * r + 1 + j) 0 → NumbersTo (actionAt p r) n o a (j + 1) o₂ a₂
 unfolding actionAt
-action-turn p r j n e s t = numbers-turn (λ k. actionAt p r k) j n e s t
+actions-turn p r n j v h s t e = numbers-turn (actionAt p r) n j v h s t e
 
-pub rule-line-typed : {o o₁ o₂ o₃ o₄ : List ℕ} {a a₁ a₂ a₃ a₄ : ℕ} (p : List ℕ) (r j n : ℕ) → n ≡ getD p (256 + 112 * r) 0 → j ≤ n → n ≤ j
-    → Adds o a (114 ∷ []) o₁ a₁ → Adds o₁ a₁ (32 ∷ decimal r) o₂ a₂ → Adds o₂ a₂ (spaced (tabulate j (λ k. actionAt p r k))) o₃ a₃
-    → Adds o₃ a₃ (10 ∷ []) o₄ a₄ → Adds o a (ruleLineOf p r) o₄ a₄
-unfolding ruleLineOf actionsOf sequenceLength
-rule-line-typed p r j n e l h w s t v =
-    let same : j ≡ getD p (256 + 112 * r) 0 = omega (arith, e) in
-    numbered-line r j (getD p (256 + 112 * r) 0) (λ k. actionAt p r k) same w s t v
+pub actions-end : {o o₁ : List ℕ} {a a₁ : ℕ} (p : List ℕ) (r n j : ℕ) → n ≡ getD p (256 + 112 * r) 0 → n ≤ j
+    → NumbersTo (actionAt p r) n o a j o₁ a₁ → Adds o a (spaced (actionsOf p r)) o₁ a₁
+unfolding actionsOf sequenceLength
+actions-end p r n j e h s = numbers-end (actionAt p r) n (getD p (256 + 112 * r) 0) j e h s
+
+pub rule-line-typed : {o o₁ o₂ o₃ o₄ : List ℕ} {a a₁ a₂ a₃ a₄ : ℕ} (p : List ℕ) (r : ℕ) → Adds o a (114 ∷ []) o₁ a₁
+    → Adds o₁ a₁ (32 ∷ decimal r) o₂ a₂ → Adds o₂ a₂ (spaced (actionsOf p r)) o₃ a₃ → Adds o₃ a₃ (10 ∷ []) o₄ a₄
+    → Adds o a (ruleLineOf p r) o₄ a₄
+unfolding ruleLineOf
+rule-line-typed p r w s t v = whole-line (r ∷ actionsOf p r) w (more-numbers (r ∷ []) (actionsOf p r) (one-number r s) t) v
 
 -- all lines
 pub plan-lines-typed : {o o₁ o₂ o₃ : List ℕ} {a₁ a₂ a₃ : ℕ} (g p : List ℕ) → Adds o 0 (firstLine g) o₁ a₁

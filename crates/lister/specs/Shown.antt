@@ -2,10 +2,13 @@
 -- Assumes nothing.
 use Prim.Native.Nat.{ℕ, min}
 use mathlib.Core.Path.{_≡_}
-use mathlib.Core.List.{List, _∷_, _++_}
+use mathlib.Core.List.{List, [], _∷_, _++_}
 use lib.ListN.{length, take}
 use Rattle.basics.specs.Lists.{tabulate, blocks}
-use Rattle.grammar.specs.Table.{symbols, rules}
+use Rattle.refusals.specs.declared.Refusal.{Refusal}
+use Rattle.refusals.specs.Numbers.{numberOf, placeOf, secondOf}
+use Rattle.grammar.specs.Table.{symbols, rules, attributes}
+use Rattle.sets.specs.Visits.{setNumber, visits}
 use Rattle.plans.specs.Buffers.{over}
 use Rattle.plans.specs.Sequences.{sequenceLength, actionAt}
 use Rattle.text.specs.Lines.{line, ruleWord}
@@ -20,6 +23,18 @@ pub record Shows (lent text out : List ℕ) (at : ℕ) : Type 0 where
 pub record Adds (out : List ℕ) (at : ℕ) (new out′ : List ℕ) (at′ : ℕ) : Type 0 where
   pub kept : length out′ ≡ length out
   pub goesOn : (lent text : List ℕ) → Shows lent text out at → Shows lent (text ++ new) out′ at′
+
+-- the three numbers of a refusal
+abbrev pub refusalNumbers : Refusal → List ℕ
+refusalNumbers r = numberOf r ∷ placeOf r ∷ secondOf r ∷ []
+
+-- the set of each attribute of symbol x in the words of plan p
+unfoldable pub setNumbers : List ℕ → List ℕ → ℕ → List ℕ
+setNumbers g p x = tabulate (attributes g x) (λ a. setNumber p x a)
+
+-- the numbers of symbol x in its line
+abbrev pub symbolNumbers : List ℕ → List ℕ → ℕ → List ℕ
+symbolNumbers g p x = x ∷ visits p x ∷ setNumbers g p x
 
 -- the actions of rule r in the words of plan p
 unfoldable pub actionsOf : List ℕ → ℕ → List ℕ

