@@ -1,15 +1,18 @@
 -- Members of sets as tests: of a collected set, of a union, of a set with a number put in or taken out, and that a set is known by them.
 -- Assumes nothing.
-use Prim.Native.Nat.{ℕ, _^_, _<_}
+use Prim.Native.Nat.{ℕ, _%_, _^_, _≤_, _<_}
 use mathlib.Core.Path.{_≡_, refl, sym, _∙_, ap, subst⁻¹}
 use mathlib.Core.Logic.{_⊎_, inl, inr, ⊎-elim}
 use mathlib.Core.Bool.{Bool, true, false, not}
 use native.Mathlib.Omega.{arith}
+use native.Mathlib.Nat.{mod-lt}
 use lib.Dec.{T, eqb, eqb→eq, T-not}
+use lib.Pow.{pow-pos}
 use Rattle.basics.proofs.TestLaws.{true-T, T-true, false-T, same-or-not, below-or-not}
 use Rattle.bits.specs.Bit.{bit, number, hasb, collect, insert, remove, union, common, minus}
-use Rattle.bits.proofs.BitLaws.{bit-above, bit-cases, bit-ext, bit-has, bit-lacks, bit-le, bit-of-zero, has-bit, number-hasb}
+use Rattle.bits.proofs.BitLaws.{bit-above, bit-cases, bit-ext, bits-ext, bit-has, bit-lacks, bit-le, bit-of-zero, has-bit, number-hasb}
 use Rattle.bits.proofs.CollectLaws.{bit-collect}
+use Rattle.bits.proofs.ShiftLaws.{bit-cut, bit-cut-above}
 use Rattle.bits.proofs.SetLaws.{bit-union, bit-common, bit-minus, bit-insert-same, bit-insert-other, bit-remove-same, bit-remove-other}
 
 -- a collected set has the numbers that pass
@@ -25,7 +28,17 @@ pub hasb-below : (w k s : ℕ) → s < 2 ^ w → T (hasb k s) → k < w
 hasb-below w k s h t =
     ⊎-elim (λ l. l) (λ l. absurd (omega (arith, bit-above w k s h l, eqb→eq (bit k s) 1 t))) (below-or-not k w)
 
--- and is known by them
+-- and a set of numbers below w is below 2 ^ w
+pub small-set : (w s : ℕ) → ((k : ℕ) → T (hasb k s) → k < w) → s < 2 ^ w
+small-set w s f =
+    let e : s ≡ s % 2 ^ w =
+    bits-ext s (s % 2 ^ w) (λ k. ⊎-elim (λ l. sym (bit-cut w k s l)) (λ l. high k l ∙ sym (bit-cut-above w k s l)) (below-or-not k w)) in
+    subst⁻¹ (λ (n : ℕ). n < 2 ^ w) e (mod-lt s (pow-pos w))
+  where
+    high : (k : ℕ) → w ≤ k → bit k s ≡ 0
+    high k l = ⊎-elim (λ z. z) (λ o. absurd (let m = f k (true-T _ (bit-has k s o)) in omega arith)) (bit-cases k s)
+
+-- a set is known by its members
 pub hasb-ext : (w s t : ℕ) → s < 2 ^ w → t < 2 ^ w → ((k : ℕ) → k < w → hasb k s ≡ hasb k t) → s ≡ t
 hasb-ext w s t h l e = bit-ext w s t h l (λ k m. sym (number-hasb k s) ∙ (ap (λ (b : Bool). number b) (e k m) ∙ number-hasb k t))
 

@@ -10,7 +10,7 @@ use lib.Dec.{T, T-not, eqb→eq, lt→ltb}
 use lib.ListN.{length, take, replicate, length-take, List·getD-append, List·getD-eq-default}
 use lib.Seq.{ext-getD, getD-take}
 use Rattle.bits.specs.Bit.{hasb}
-use Rattle.bits.proofs.MemberLaws.{none-left}
+use Rattle.bits.proofs.MemberLaws.{none-left, small-set}
 use Rattle.basics.specs.Lists.{word, padded}
 use Rattle.basics.proofs.TestLaws.{or-cases, and-intro, and-left, and-right, below-or-not}
 use Rattle.basics.proofs.ListLaws.{length-padded, getD-past}
@@ -32,7 +32,6 @@ use Rattle.plans.specs.Buffers.{over, rowsOf}
 use Rattle.plans.specs.Answer.{idpPaths}
 use Rattle.inducing.specs.Rules.{Holds, Frame, Cleared, Filled, Arcs, Standing}
 use Rattle.inducing.specs.Stale.{Fresh, Stale}
-use Rattle.inducing.proofs.ArcSetLaws.{small-set}
 use Rattle.inducing.proofs.RuleRowLaws.{counts}
 use Rattle.inducing.proofs.HoldsLaws.{frame-then, path-leads, holds-rows}
 use Rattle.inducing.proofs.ClearLaws.{zero-words, cleared-rules}

@@ -8,6 +8,7 @@ use mathlib.Core.List.{List}
 use native.Mathlib.Omega.{arith}
 use lib.Dec.{T}
 use lib.ListN.{length}
+use Rattle.bits.proofs.MemberLaws.{small-set}
 use Rattle.bits.specs.Bit.{hasb}
 use Rattle.basics.specs.Lists.{word}
 use Rattle.basics.proofs.TestLaws.{same-or-not, below-or-not, same-test}
@@ -18,7 +19,6 @@ use Rattle.closing.specs.Rows.{leads, Kept}
 use Rattle.inducing.specs.Closes.{Closes}
 use Rattle.plans.specs.Buffers.{over, rowsOf}
 use Rattle.inducing.specs.Rules.{occurrencesOf, Holds, Frame}
-use Rattle.inducing.proofs.ArcSetLaws.{small-set}
 use Rattle.inducing.proofs.RowLaws.{rows-are}
 use Rattle.inducing.proofs.RuleRowLaws.{among-small}
 

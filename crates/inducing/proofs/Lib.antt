@@ -1,4 +1,3 @@
-pub mod ArcSetLaws
 pub mod RowLaws
 pub mod CycleLaws
 pub mod ClosesLaws
