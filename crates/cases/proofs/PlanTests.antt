@@ -1,7 +1,7 @@
 -- Planning refuses with n exactly if n is the first of the cases 1 to 11 that applies, and answers a plan exactly if none applies: the reader's
 -- cases come first, then those of planning. 11 is never the first. Assumes nothing.
 use Prim.Native.Nat.{ℕ, _≤_}
-use mathlib.Core.Path.{_≡_, refl, sym, ap, subst⁻¹}
+use mathlib.Core.Path.{_≡_, refl, sym, _∙_, ap, subst⁻¹}
 use mathlib.Core.Logic.{_⊎_, inl, inr, _↔_, Iff·trans}
 use mathlib.Core.List.{List}
 use native.Mathlib.Omega.{arith}
@@ -32,6 +32,7 @@ use Rattle.plans.specs.Answer.{
   outcome,
   answerOf,
 }
+use Rattle.plans.proofs.Left.{accepted-answer}
 use Rattle.cases.specs.First.{readyWalk, walk, earlierWalk, GoesBy}
 use Rattle.cases.specs.PlanningCases.{PlanningCase, PlanCase, inTable, inPlanning}
 use Rattle.cases.specs.PlanningCases as case
@@ -70,35 +71,35 @@ module _ (g : List ℕ) (rowsLength planLength : ℕ) where
       (λ e. by-finding g (PlanningCase g rowsLength planLength) _ (found-planning g rowsLength planLength e)))
 
   -- what planning answers
-  refused-answer : (o : Outcome) (n : Refusal) → (answerOf g o ≡ P.the-variants.Refused n) ↔ (verdictOf o ≡ Refused n)
+  answer-refused : (o : Outcome) (n : Refusal) → (answerOf g o ≡ P.the-variants.Refused n) ↔ (verdictOf o ≡ Refused n)
   unfolding answerOf verdictOf
-  refused-answer (untouched k) n = (λ e. cc, λ e. cc)
-  refused-answer (circularIdp k) n = (λ e. cc, λ e. cc)
-  refused-answer (unordered k) n = (λ e. cc, λ e. cc)
-  refused-answer accepts n = (λ e. absurd (let z : _≡_ {A = ℕ} 0 1 = cc in omega arith), λ e. absurd (good-not-refused n e))
+  answer-refused (untouched k) n = (λ e. cc, λ e. cc)
+  answer-refused (circularIdp k) n = (λ e. cc, λ e. cc)
+  answer-refused (unordered k) n = (λ e. cc, λ e. cc)
+  answer-refused accepts n = (λ e. absurd (let z : _≡_ {A = ℕ} 0 1 = cc in omega arith), λ e. absurd (good-not-refused n e))
 
-  accepted-answer : (o : Outcome) (k : ℕ)
+  answer-accepted : (o : Outcome) (k : ℕ)
       → (answerOf g o ≡ P.the-variants.Accepted k) ↔ ((k ≡ planWords (rules g)) × (verdictOf o ≡ Good))
   unfolding answerOf verdictOf
-  accepted-answer (untouched m) k =
+  answer-accepted (untouched m) k =
       (λ e. absurd (let z : _≡_ {A = ℕ} 0 1 = cc in omega arith), λ e. absurd (good-not-refused m (sym (e .1))))
-  accepted-answer (circularIdp m) k =
+  answer-accepted (circularIdp m) k =
       (λ e. absurd (let z : _≡_ {A = ℕ} 0 1 = cc in omega arith), λ e. absurd (good-not-refused m (sym (e .1))))
-  accepted-answer (unordered m) k =
+  answer-accepted (unordered m) k =
       (λ e. absurd (let z : _≡_ {A = ℕ} 0 1 = cc in omega arith), λ e. absurd (good-not-refused m (sym (e .1))))
-  accepted-answer accepts k = (λ e. (cc, refl), λ e. ap P.the-variants.Accepted (sym (e .0)))
+  answer-accepted accepts k = (λ e. (cc, refl), λ e. accepted-answer g ∙ ap P.the-variants.Accepted (sym (e .0)))
 
   -- planning answers refusal n exactly if n is the first of the cases 1 to 11 that applies
   pub plan-refused : (n : Refusal)
       → (answerOf g (outcome g rowsLength planLength) ≡ P.the-variants.Refused n) ↔ PlanRefuses g rowsLength planLength n
-  plan-refused n = Iff·trans (refused-answer (outcome g rowsLength planLength) n) (plan-verdict .refused n)
+  plan-refused n = Iff·trans (answer-refused (outcome g rowsLength planLength) n) (plan-verdict .refused n)
 
   -- and a plan exactly if none applies
   pub plan-accepted : (k : ℕ) → (answerOf g (outcome g rowsLength planLength) ≡ P.the-variants.Accepted k)
       ↔ ((k ≡ planWords (rules g)) × ((n : Refusal) → ¬ PlanCase g rowsLength planLength n))
   plan-accepted k = (
-    λ e. let w = accepted-answer (outcome g rowsLength planLength) k .0 e in (w .0, plan-verdict .good .0 (w .1)),
-    λ w. accepted-answer (outcome g rowsLength planLength) k .1 (w .0, plan-verdict .good .1 (w .1)),
+    λ e. let w = answer-accepted (outcome g rowsLength planLength) k .0 e in (w .0, plan-verdict .good .0 (w .1)),
+    λ w. answer-accepted (outcome g rowsLength planLength) k .1 (w .0, plan-verdict .good .1 (w .1)),
   )
 
   -- 11 never answers
