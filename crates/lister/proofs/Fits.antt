@@ -9,6 +9,7 @@ use native.Mathlib.Omega.{arith}
 use native.Mathlib.Nat.{pow-suc}
 use lib.Dec.{ltb, eqb, lt→ltb}
 use lib.ListN.{length, getD, take, length-append}
+use Rattle.grammar.specs.Limits.{mostRules, rowWords, planWords}
 use Rattle.basics.specs.Lists.{tabulate, blocks}
 use Rattle.basics.proofs.TestLaws.{tested, chosen, passed-over}
 use Rattle.basics.proofs.ListLaws.{length-tabulate, getD-tabulate}
@@ -32,7 +33,8 @@ use Rattle.sequences.proofs.PlannedSequences.{planned-short}
 use Rattle.plans.specs.Answer.{Outcome, untouched, circularIdp, unordered, accepted, outcome, sequencesOf}
 use Rattle.planner.proofs.AcceptedLaws.{both-good}
 use Rattle.text.specs.Lines.{digits, decimal, spaced, line, planWord, symbolWord, ruleWord, refusedWord}
-use Rattle.text.specs.Listing.{refusalLine, firstLine, symbolLine, ruleLine, planText, outcomeText, tableText, wordsOf, bytesText, listing}
+use Rattle.lister.specs.Shown.{longestListing}
+use Rattle.text.specs.Listing.{mostBytes, refusalLine, firstLine, symbolLine, ruleLine, planText, outcomeText, tableText, wordsOf, bytesText, listing}
 
 -- A number has no more digits than are asked for, and no more than it needs.
 digits-most : (k n : ℕ) → length (digits k n) ≤ k
@@ -144,7 +146,7 @@ module _ (g : List ℕ) (good : readTable g ≡ Good) where
           small (getD (sequenceOf g (idsOf g) s r) j 0)
           (omega (arith, action-below g s r (getD (sequenceOf g (idsOf g) s r) j 0) (nothing-else g (idsOf g) s r j (omega arith))))
 
-  plan-short : length (planText g) ≤ 28365
+  plan-short : length (planText g) ≤ longestListing
   unfolding planText
   plan-short =
       omega (
@@ -158,22 +160,22 @@ module _ (g : List ℕ) (good : readTable g ≡ Good) where
         w .rulesFit,
       )
 
-table-short : (g : List ℕ) → length (tableText g) ≤ 28365
+table-short : (g : List ℕ) → length (tableText g) ≤ longestListing
 unfolding tableText
-table-short g = go (outcome g 4096 7424) refl
+table-short g = go (outcome g (rowWords mostRules) (planWords mostRules)) refl
   where
-    go : (o : Outcome) → outcome g 4096 7424 ≡ o → length (outcomeText g o) ≤ 28365
+    go : (o : Outcome) → outcome g (rowWords mostRules) (planWords mostRules) ≡ o → length (outcomeText g o) ≤ longestListing
     go (untouched n) e = unfold outcomeText in omega (arith, refusal-short n)
     go (circularIdp n) e = unfold outcomeText in omega (arith, refusal-short n)
     go (unordered n) e = unfold outcomeText in omega (arith, refusal-short n)
-    go accepted e = unfold outcomeText in plan-short g (both-good g 4096 7424 e .0)
+    go accepted e = unfold outcomeText in plan-short g (both-good g (rowWords mostRules) (planWords mostRules) e .0)
 
 -- no listing is longer
-pub listing-fits : (input : List ℕ) → length (listing input) ≤ 28365
+pub listing-fits : (input : List ℕ) → length (listing input) ≤ longestListing
 unfolding listing bytesText
-listing-fits input = go (take 65536 input)
+listing-fits input = go (take mostBytes input)
   where
-    go : (bytes : List ℕ) → length (bytesText bytes) ≤ 28365
+    go : (bytes : List ℕ) → length (bytesText bytes) ≤ longestListing
     go bytes =
         ⊎-elim (λ t. let e = chosen (eqb (length bytes % 2) 0) (tableText (wordsOf bytes)) (refusalLine (EndsEarly (length bytes / 2))) t in
         omega (arith, ap length e, table-short (wordsOf bytes)))

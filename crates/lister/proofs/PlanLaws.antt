@@ -8,6 +8,7 @@ use native.Mathlib.Omega.{arith}
 use lib.Dec.{T}
 use lib.ListN.{length, getD}
 use lib.Seq.{ext-getD}
+use Rattle.grammar.specs.Limits.{planWords}
 use Rattle.basics.specs.Lists.{tabulate, blocks}
 use Rattle.basics.proofs.TestLaws.{chosen, passed-over, true-T, false-T}
 use Rattle.basics.proofs.ListLaws.{length-tabulate, getD-tabulate}
@@ -75,14 +76,14 @@ symbol-line-typed g p x b t e w s v =
 
 -- the line of a rule
 pub actions-turn : {o o₁ o₂ : List ℕ} {a a₁ a₂ : ℕ} (p : List ℕ) (r n j v : ℕ) → j < n → NumbersTo (actionAt p r) n o a j o₁ a₁
-    → Adds o₁ a₁ (32 ∷ decimal v) o₂ a₂ → v ≡ getD p (256 + 112 * r + 1 + j) 0 → NumbersTo (actionAt p r) n o a (j + 1) o₂ a₂
+    → Adds o₁ a₁ (32 ∷ decimal v) o₂ a₂ → v ≡ getD p (planWords r + 1 + j) 0 → NumbersTo (actionAt p r) n o a (j + 1) o₂ a₂
 unfolding actionAt
 actions-turn p r n j v h s t e = numbers-turn (actionAt p r) n j v h s t e
 
-pub actions-end : {o o₁ : List ℕ} {a a₁ : ℕ} (p : List ℕ) (r n j : ℕ) → n ≡ getD p (256 + 112 * r) 0 → n ≤ j
+pub actions-end : {o o₁ : List ℕ} {a a₁ : ℕ} (p : List ℕ) (r n j : ℕ) → n ≡ getD p (planWords r) 0 → n ≤ j
     → NumbersTo (actionAt p r) n o a j o₁ a₁ → Adds o a (spaced (actionsOf p r)) o₁ a₁
 unfolding actionsOf sequenceLength
-actions-end p r n j e h s = numbers-end (actionAt p r) n (getD p (256 + 112 * r) 0) j e h s
+actions-end p r n j e h s = numbers-end (actionAt p r) n (getD p (planWords r) 0) j e h s
 
 pub rule-line-typed : {o o₁ o₂ o₃ o₄ : List ℕ} {a a₁ a₂ a₃ a₄ : ℕ} (p : List ℕ) (r : ℕ) → Adds o a (114 ∷ []) o₁ a₁
     → Adds o₁ a₁ (32 ∷ decimal r) o₂ a₂ → Adds o₂ a₂ (spaced (actionsOf p r)) o₃ a₃ → Adds o₃ a₃ (10 ∷ []) o₄ a₄

@@ -9,6 +9,7 @@ use native.Mathlib.Numerals.{add-one}
 use lib.Dec.{eqb, eqb→eq, not-T}
 use lib.ListN.{length, getD, take, drop, set, length-append, length-set}
 use lib.Seq.{drop-cons, set-at, append-snoc, take-all, take-at, length-take-le}
+use Rattle.grammar.specs.Limits.{mostRules, rowWords, planWords}
 use Rattle.basics.specs.Lists.{word, tabulate}
 use Rattle.basics.proofs.TestLaws.{chosen, passed-over, eq-T, below-or-not}
 use Rattle.basics.proofs.ListLaws.{length-tabulate}
@@ -21,7 +22,7 @@ use Rattle.plans.specs.Buffers.{over}
 use Rattle.plans.specs.Answer.{Outcome, untouched, circularIdp, unordered, accepted, outcome, answerOf, planAfter}
 use Rattle.planner.specs.Answered.{Answered}
 use Rattle.planner.proofs.AcceptedLaws.{is-accepted, both-good}
-use Rattle.text.specs.Listing.{refusalLine, outcomeText, tableText, planText, wordsOf, bytesText, listing}
+use Rattle.text.specs.Listing.{mostBytes, refusalLine, outcomeText, tableText, planText, wordsOf, bytesText, listing}
 use Rattle.lister.specs.Shown.{Shows, Adds, planLines}
 use Rattle.lister.proofs.ShownLaws.{from-start}
 use Rattle.lister.proofs.PlanLaws.{lines-of-plan}
@@ -76,23 +77,23 @@ refused-text g (unordered k) n e = let q : n ≡ k = cc in ap refusalLine q
 refused-text g accepted n e = absurd (let z : _≡_ {A = ℕ} 0 1 = cc in omega arith)
 
 -- rows and plan are long enough for every table
-module _ (lent out g rows plan rows′ plan′ : List ℕ) (at : ℕ) (planned : P.Planned) (lr : length rows ≡ 4096) (lp : length plan ≡ 7424)
+module _ (lent out g rows plan rows′ plan′ : List ℕ) (at : ℕ) (planned : P.Planned) (lr : length rows ≡ (rowWords mostRules)) (lp : length plan ≡ (planWords mostRules))
     (w : Answered g rows plan planned rows′ plan′) where
-  long-enough : outcome g (length rows) (length plan) ≡ outcome g 4096 7424
+  long-enough : outcome g (length rows) (length plan) ≡ outcome g (rowWords mostRules) (planWords mostRules)
   long-enough = ap₂ (λ (x y : ℕ). outcome g x y) lr lp
 
   pub list-refused : (n : Refusal) → planned ≡ P.the-variants.Refused n → Adds lent 0 (refusalLine n) out at → Shows lent (tableText g) out at
   unfolding tableText
   list-refused n e s =
       subst (λ (t : List ℕ). Shows lent t out at)
-      (refused-text g (outcome g 4096 7424) n (sym e ∙ (w .answers ∙ ap (answerOf g) long-enough))) (from-start s)
+      (refused-text g (outcome g (rowWords mostRules) (planWords mostRules)) n (sym e ∙ (w .answers ∙ ap (answerOf g) long-enough))) (from-start s)
 
   pub list-accepted : (n : ℕ) → planned ≡ P.the-variants.Accepted n → Shows lent (planLines g plan′) out at → Shows lent (tableText g) out at
   unfolding tableText planAfter outcomeText
   list-accepted n e s =
       let q : outcome g (length rows) (length plan) ≡ accepted = is-accepted g (outcome g (length rows) (length plan)) n (sym e ∙ w .answers) in
       let good : readTable g ≡ Good = both-good g (length rows) (length plan) q .0 in
-      let text : planText g ≡ outcomeText g (outcome g 4096 7424) = ap (outcomeText g) (sym q ∙ long-enough) in
+      let text : planText g ≡ outcomeText g (outcome g (rowWords mostRules) (planWords mostRules)) = ap (outcomeText g) (sym q ∙ long-enough) in
       subst (λ (t : List ℕ). Shows lent t out at)
       (ap (planLines g) (w .planIs ∙ ap (λ (x : Outcome). planAfter g x plan) q) ∙ (lines-of-plan g good plan ∙ text)) s
 
@@ -127,11 +128,11 @@ take-least n l =
 pub looked-length : (n m k : ℕ) (l : List ℕ) → n ≡ min k m → k ≡ length l → (n ≡ length (take n l)) × (length (take n l) ≤ m)
 looked-length n m k l e f = (sym (length-take-le n l (omega (arith, e))), omega (arith, e, length-take-le n l (omega (arith, e))))
 
-pub looked-text : (lent out input : List ℕ) (at n : ℕ) → n ≡ min (length input) 65536 → Shows lent (bytesText (take n input)) out at
+pub looked-text : (lent out input : List ℕ) (at n : ℕ) → n ≡ min (length input) mostBytes → Shows lent (bytesText (take n input)) out at
     → Shows lent (listing input) out at
 unfolding listing
 looked-text lent out input at n e s =
-    subst (λ (t : List ℕ). Shows lent (bytesText t) out at) (ap (λ (k : ℕ). take k input) e ∙ take-least 65536 input) s
+    subst (λ (t : List ℕ). Shows lent (bytesText t) out at) (ap (λ (k : ℕ). take k input) e ∙ take-least mostBytes input) s
 
 -- the words of the bytes are there to be lent
 pub words-there : (bytes words buffer : List ℕ) → words ≡ over (wordsOf bytes) buffer → length bytes / 2 ≡ length (take (length bytes / 2) words)

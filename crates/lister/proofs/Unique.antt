@@ -8,7 +8,7 @@ use lib.ListN.{length, take}
 use lib.Seq.{take-all, take-at}
 use Rattle.plans.specs.Buffers.{over}
 use Rattle.text.specs.Listing.{listing}
-use Rattle.lister.specs.Shown.{Shows}
+use Rattle.lister.specs.Shown.{lentBytes, Shows}
 use Rattle.lister.proofs.Fits.{listing-fits}
 
 -- the contract of `list` is Shows of the text `listing input`
@@ -19,8 +19,8 @@ every-input lent text =
 pub one-answer : (lent text out₁ out₂ : List ℕ) (at₁ at₂ : ℕ) → Shows lent text out₁ at₁ → Shows lent text out₂ at₂ → (out₁ ≡ out₂) × (at₁ ≡ at₂)
 one-answer lent text out₁ out₂ at₁ at₂ v w = (v .shown ∙ sym (w .shown), v .counted ∙ sym (w .counted))
 
--- in a buffer of 32,768 bytes all of the listing is shown
-pub whole-listing : (lent input out : List ℕ) (at : ℕ) → length lent ≡ 32768 → Shows lent (listing input) out at → take at out ≡ listing input
+-- in the buffer that the program lends all of the listing is shown
+pub whole-listing : (lent input out : List ℕ) (at : ℕ) → length lent ≡ lentBytes → Shows lent (listing input) out at → take at out ≡ listing input
 unfolding over
 whole-listing lent input out at size v =
     let short : length (listing input) ≤ length lent = omega (arith, size, listing-fits input) in

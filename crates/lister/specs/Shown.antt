@@ -14,6 +14,13 @@ use Rattle.plans.specs.Sequences.{sequenceLength, actionAt}
 use Rattle.text.specs.Lines.{line, ruleWord}
 use Rattle.text.specs.Listing.{firstLine, symbolLine}
 
+-- No listing is longer, and the program lends so many bytes.
+abbrev pub longestListing : ℕ
+longestListing = 28365
+
+abbrev pub lentBytes : ℕ
+lentBytes = 32768
+
 -- The start of the lent bytes holds the text, or as much of it as there is room for; the others stay. at bytes are typed.
 pub record Shows (lent text out : List ℕ) (at : ℕ) : Type 0 where
   pub counted : at ≡ min (length lent) (length text)

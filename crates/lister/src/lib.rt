@@ -16,6 +16,12 @@ ghost use Rattle.text.specs.Lines as lines;
 ghost use Rattle.text.specs.Listing as listing;
 ghost use Rattle.lister.specs.Shown as shown;
 
+// "looks at the first 65,536 bytes"
+pub const MOST_BYTES: usize = 65536;
+
+// No listing is longer than this, so whoever lends so many bytes is shown all of it.
+pub const LENT_BYTES: usize = 32768;
+
 // One byte.
 fn put(out: &mut [u8], at: usize, b: u8) -> usize
     ensures { λ r. ⌜ shown.Adds (now (out .entry)) at (b ∷ []) (now (out .exit)) r ⌝ }
@@ -212,26 +218,26 @@ fn little_endian(bytes: &[u8], words: &mut [u16])
 
 // "An odd count of bytes looked at prints `refused 1 w 0`, w the whole words, before anything else."
 fn list_bytes(bytes: &[u8], out: &mut [u8]) -> usize
-    requires { ⌜ length (now bytes) ≤ 65536 ⌝ }
+    requires { ⌜ length (now bytes) ≤ listing.mostBytes ⌝ }
     ensures { λ r. ⌜ shown.Shows (now (out .entry)) (listing.bytesText (now (bytes .entry))) (now (out .exit)) r ⌝ }
 {
     let whole = bytes.len() / 2;
     if bytes.len() % 2 != 0 {
         return refusal_line(out, 0, Refusal::EndsEarly(whole));
     }
-    let mut words = [0u16; 32768];
+    let mut words = [0u16; MOST_BYTES / 2];
     little_endian(bytes, &mut words);
     list_table(&words[..whole], out)
 }
 
-// "looks at the first 65,536 bytes"
+// Of so many bytes these are looked at.
 fn looked_at(n: usize) -> usize
-    ensures { λ r. ⌜ r ≡ min n 65536 ⌝ }
+    ensures { λ r. ⌜ r ≡ min n listing.mostBytes ⌝ }
 {
-    if n < 65536 {
+    if n < MOST_BYTES {
         return n;
     }
-    65536
+    MOST_BYTES
 }
 
 // The listing of what stands in the input.

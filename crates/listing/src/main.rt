@@ -2,6 +2,8 @@
 use libc::STDERR_FILENO;
 use libc::STDIN_FILENO;
 use libc::STDOUT_FILENO;
+use lister::LENT_BYTES;
+use lister::MOST_BYTES;
 
 // A short count of bytes is the whole input only where nothing more can be read and no read fails.
 fn at_end() -> bool {
@@ -11,9 +13,9 @@ fn at_end() -> bool {
 
 fn main() {
     let mut input = io::large_buffer();
-    let mut out = [0u8; 32768];
+    let mut out = [0u8; LENT_BYTES];
     let n = io::read_full(STDIN_FILENO, &mut input);
-    if n < 65536 {
+    if n < MOST_BYTES {
         if !at_end() {
             io::write_all(STDERR_FILENO, b"listing: standard input cannot be read\n");
             return;

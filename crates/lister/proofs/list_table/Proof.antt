@@ -2,6 +2,7 @@
 -- Assumes nothing.
 use Prim.Native.Nat.{ℕ}
 use lib.ListN.{length-replicate}
+use Rattle.grammar.specs.Limits.{mostRules, rowWords, planWords}
 use Rattle.lister.proofs.TableLaws as table
 use borrow.Author.Needs.{needs}
 use Rattle.lister.proofs.list_table.Statement.{statement}
@@ -26,7 +27,7 @@ same-length : tie.Need-same-length
 same-length c = search needs
 
 returns : tie.Need-returns
-returns c = search (table.list-refused, length-replicate {A = ℕ} 4096 0, length-replicate {A = ℕ} 7424 0)
+returns c = search (table.list-refused, length-replicate {A = ℕ} (rowWords mostRules) 0, length-replicate {A = ℕ} (planWords mostRules) 0)
 
 enum-told : tie.Need-enum-told
 enum-told c = search needs
@@ -41,7 +42,7 @@ same-length-2 : tie.Need-same-length-2
 same-length-2 c = search needs
 
 returns-2 : tie.Need-returns-2
-returns-2 c = search (table.list-accepted, length-replicate {A = ℕ} 4096 0, length-replicate {A = ℕ} 7424 0)
+returns-2 c = search (table.list-accepted, length-replicate {A = ℕ} (rowWords mostRules) 0, length-replicate {A = ℕ} (planWords mostRules) 0)
 
 pub list-table-spec : {M : Type 1} → statement M
 list-table-spec =
