@@ -38,14 +38,7 @@ use Rattle.runs.proofs.BalanceKept.{after-balanced}
 use Rattle.runs.proofs.StepsCounted.{busy, empty-after, all-at-end}
 use Rattle.runs.proofs.TotalFits.{total-bound}
 use Rattle.runs.proofs.RunAnswers.{ran-done, ran-stopped}
-use Rattle.runs.proofs.ComputedOnce.{
-  balanced-at,
-  defined-computed,
-  attribute-computed,
-  computed-once,
-  only-attributes,
-  no-terminal,
-}
+use Rattle.runs.proofs.ComputedOnce.{balanced-at, defined-computed, attribute-computed, computed-once, only-attributes, no-terminal}
 use Rattle.runs.proofs.AfterArguments.{after-arguments}
 use Rattle.runs.proofs.ValuesWritten.{values-length, compute-writes}
 use Rattle.runs.proofs.Solved.{solved, terminals-stay}
@@ -105,10 +98,6 @@ module _ (g p t : List ℕ) (values : List ℤ) (good : readTable g ≡ Good) (s
   pub run-completes : (budget : ℕ) → total p t ≤ budget → (n : ℕ) → n < nodes t → T (appliesRule t n)
       → word (ran g p t values budget .machine .places) n ≡ sequenceLength p (ruleOf t n)
   run-completes budget h n i a = ap (λ (m : Machine). word (m .places) n) (run-end budget h) ∙ all-at-end given values n i a
-
-  -- at every moment stack and places are in balance
-  pub run-balanced : (k : ℕ) → Balanced g p t (machineAt g p t values k .stack) (machineAt g p t values k .places)
-  run-balanced k = after-balanced given values k
 
   -- before the total a node is on top
   pub run-busy : (k : ℕ) → k < total p t → (n : ℕ) × (rest : List ℕ) × (machineAt g p t values k .stack ≡ n ∷ rest)

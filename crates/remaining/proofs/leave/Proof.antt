@@ -1,6 +1,6 @@
 -- `remaining::leave` meets its contract: the leave is taken out, and what the parent hands down next no longer waits. Assumes nothing.
 use borrow.Author.Needs.{needs}
-use Rattle.remaining.proofs.LeftLaws.{down-by, down-inside}
+use Rattle.remaining.proofs.LeftLaws.{leave-answer, down-inside}
 use Rattle.remaining.proofs.leave.Statement.{statement}
 use Rattle.remaining.proofs.leave.Tie as tie
 
@@ -23,13 +23,7 @@ minus-requires : tie.Need-minus-requires
 minus-requires c κs = search needs
 
 returns : tie.Need-returns
-returns c = record {
-  actionIs = search needs;
-  computesAre = search needs;
-  visitsAre = search needs;
-  leavesAre = search needs;
-  waitingAre = search down-by;
-}
+returns c = search leave-answer
 
 pub leave-spec : {M : Type 1} → statement M
 leave-spec =

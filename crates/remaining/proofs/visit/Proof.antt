@@ -1,6 +1,6 @@
 -- `remaining::visit` meets its contract: the visit is taken out, and what it hands up no longer waits. Assumes nothing.
 use borrow.Author.Needs.{needs}
-use Rattle.remaining.proofs.LeftLaws.{up-by, up-small, up-inside}
+use Rattle.remaining.proofs.LeftLaws.{visit-answer, up-small, up-inside}
 use Rattle.remaining.proofs.visit.Statement.{statement}
 use Rattle.remaining.proofs.visit.Tie as tie
 
@@ -29,13 +29,7 @@ minus-requires : tie.Need-minus-requires
 minus-requires c κs = search needs
 
 returns : tie.Need-returns
-returns c = record {
-  actionIs = search needs;
-  computesAre = search needs;
-  visitsAre = search needs;
-  leavesAre = search needs;
-  waitingAre = search up-by;
-}
+returns c = search visit-answer
 
 pub visit-spec : {M : Type 1} → statement M
 visit-spec =
