@@ -5,7 +5,7 @@ pub mod FillLaws
 pub mod SpreadLaws
 pub mod RuleRowLaws
 pub mod HoldsLaws
-pub mod InduceLaws
+pub mod FillingLaws
 pub mod ClearLaws
 pub mod NamingLaws
 pub mod GatheringLaws

@@ -32,7 +32,7 @@ use Rattle.inducing.specs.Rules.{occurrencesOf, Induced, Arcs, Standing}
 use Rattle.inducing.specs.Stale.{Naming, Gathering, Fresh, Refreshed}
 use Rattle.inducing.proofs.RuleRowLaws.{among-small, among-occurs, standing, attribute-among}
 use Rattle.inducing.proofs.HoldsLaws.{rows-other, rows-keep, frame-turn, holds-turn}
-use Rattle.inducing.proofs.InduceLaws.{idp-trans, closes-at, kept-here}
+use Rattle.inducing.proofs.FillingLaws.{idp-trans, closes-at, kept-here}
 
 module _ (g : List ℕ) (good : readTable g ≡ Good) where
   formed : WellFormed g

@@ -3,7 +3,7 @@
 use Prim.Native.Nat.{_≤_, _-_}
 use borrow.Author.Needs.{needs}
 use Rattle.access.proofs.Accessors.{rule-of}
-use Rattle.inducing.proofs.InduceLaws.{Filling, filling-start, filling-turn, filling-finish, filling-kept}
+use Rattle.inducing.proofs.FillingLaws.{Filling, filling-start, filling-turn, filling-finish, filling-kept}
 use Rattle.inducing.proofs.dp.fill.Statement.{statement}
 use Rattle.inducing.proofs.dp.fill.Tie as tie
 

@@ -1,7 +1,7 @@
 -- The rule starts where the offsets say, its functions speak of its occurrences, and their arcs are DP of the rule.
 use borrow.Author.Needs.{needs}
 use Rattle.access.proofs.Accessors.{rule-small, rule-near, rule-shaped}
-use Rattle.inducing.proofs.InduceLaws.{kept-here, filled-at}
+use Rattle.inducing.proofs.FillingLaws.{kept-here, filled-at}
 use Rattle.inducing.proofs.RuleRowLaws.{rule-few, rule-functions-fit}
 use Rattle.inducing.proofs.dp.fill_at.Statement.{statement}
 use Rattle.inducing.proofs.dp.fill_at.Tie as tie
