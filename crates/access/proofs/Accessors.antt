@@ -1,7 +1,7 @@
 -- What callers of the accessors need: from an accepted table and a rule's offset to the views by number.
 -- Assumes nothing.
 use Prim.Native.Nat.{ℕ, suc, _-_, _≤_, _<_}
-use mathlib.Core.Path.{_≡_, refl, sym, _∙_, ap, subst}
+use mathlib.Core.Path.{_≡_, sym, _∙_, ap, subst}
 use mathlib.Core.List.{List}
 use native.Mathlib.Omega.{arith}
 use lib.ListN.{length, getD, replicate, List·getD-append}
@@ -9,6 +9,7 @@ use Rattle.basics.specs.Lists.{tabulate, padded}
 use Rattle.basics.proofs.ListLaws.{length-tabulate, getD-tabulate}
 use Rattle.bits.specs.Bit.{collect}
 use Rattle.grammar.specs.declared.Verdict.the-variants.{Good}
+use Rattle.grammar.specs.Limits.{mostRules, longestTable}
 use Rattle.grammar.specs.Table.{symbols, rules, functionAt, ruleAt, rightLength, symbolOf, defining}
 use Rattle.grammar.specs.Reading.{readTable}
 use Rattle.grammar.specs.WellFormed.{WellFormed}
@@ -49,15 +50,12 @@ unfolding offsetsFor padded
 offset-is g offsets r p e h q =
     q
     ∙ (ap (λ (s : List ℕ). getD s r 0) e
-    ∙ (List·getD-append (tabulate (rules g) (λ n. ruleAt g n)) (replicate (64 - length (tabulate (rules g) (λ n. ruleAt g n))) 0) 0 r
+    ∙ (List·getD-append (tabulate (rules g) (λ n. ruleAt g n)) (replicate (mostRules - length (tabulate (rules g) (λ n. ruleAt g n))) 0) 0 r
     (omega (arith, length-tabulate (rules g) (λ n. ruleAt g n)))
     ∙ getD-tabulate (rules g) (λ n. ruleAt g n) 0 r h))
 
-pub offset-of : (g : List ℕ) (r : ℕ) → readTable g ≡ Good → r < rules g → getD (offsetsFor g (readTable g)) r 0 ≡ ruleAt g r
-offset-of g r good h = offset-is g (offsetsFor g (readTable g)) r _ (ap (offsetsFor g) good) h refl
-
 -- and that is before its end
-pub rule-fits : (g : List ℕ) (r : ℕ) → readTable g ≡ Good → r ≤ rules g → ruleAt g r ≤ 25315
+pub rule-fits : (g : List ℕ) (r : ℕ) → readTable g ≡ Good → r ≤ rules g → ruleAt g r ≤ longestTable
 rule-fits g r good h = omega (arith, rules-rise g r (rules g) h, accepted g good .ends, no-longer-table g good)
 
 -- one of the first n rules, where these are all
@@ -65,7 +63,7 @@ pub rule-of : (g offsets : List ℕ) (r n : ℕ) → readTable g ≡ Good → of
 rule-of g offsets r n good o e h = record { good = good; offsetsAre = o; inside = omega arith }
 
 module _ (g offsets : List ℕ) (r : ℕ) (w : RuleOf g offsets r) where
-  pub rule-small : r < 64
+  pub rule-small : r < mostRules
   rule-small = omega (arith, w .inside, accepted g (w .good) .rulesFit)
 
   module _ (p : ℕ) (e : p ≡ getD offsets r 0) where

@@ -23,9 +23,8 @@ use Rattle.grammar.specs.Reading.{readTable}
 use Rattle.grammar.specs.WellFormed.{WellFormed}
 use Rattle.grammar.proofs.AcceptedTable.{accepted}
 use Rattle.grammar.proofs.RuleStarts.{rule-step, rules-rise}
-use Rattle.access.specs.Offsets.{offsetsFor}
 use Rattle.access.specs.ByPlace.{symbolFrom}
-use Rattle.access.proofs.Accessors.{offset-of, symbol-at-rule}
+use Rattle.access.proofs.Accessors.{offset-is, symbol-at-rule}
 use Rattle.trees.specs.Tree.{mostNodes, nodes, ruleOf, appliesRule, child, usedSlots, symbolAtNode, terminalMark}
 use Rattle.trees.specs.Checking.{sizeFits, knownWord, slotFits, slotsFit, nodeFault, childrenFit}
 use Rattle.checking.specs.Walk.{Ready, Known, UsedSlot, AllSlots, childrenFault, slotTest, slotTestsTo, childTest, childTestsTo}
@@ -85,13 +84,12 @@ known-below g t n r k e h =
     (ltb→lt (ruleOf t n) (rules g)
     (subst (λ (b : Bool). T b) (chosen (appliesRule t n) _ _ (lt→ltb (ruleOf t n) terminalMark (subst (λ (x : ℕ). x < terminalMark) e h))) k))
 
-pub offset-is : (g offsets : List ℕ) (r : ℕ) → Ready g offsets → r < rules g → getD offsets r 0 ≡ ruleAt g r
-offset-is g offsets r w h =
-    ap (λ (o : List ℕ). getD o r 0) (w .offsetsAre ∙ ap (offsetsFor g) (sym (w .good))) ∙ offset-of g r (w .good) h
+starts-there : (g offsets : List ℕ) (r : ℕ) → Ready g offsets → r < rules g → getD offsets r 0 ≡ ruleAt g r
+starts-there g offsets r w h = offset-is g offsets r _ (w .offsetsAre) h refl
 
 -- the left symbol and the right length of a rule that the offsets name
 pub length-room : (g offsets : List ℕ) (r p : ℕ) → Ready g offsets → r < rules g → p ≡ getD offsets r 0 → p + 1 < length g
-length-room g offsets r p w h e = omega (arith, offset-is g offsets r w h, rule-room g (w .good) r h)
+length-room g offsets r p w h e = omega (arith, starts-there g offsets r w h, rule-room g (w .good) r h)
 
 pub left-room : (g offsets : List ℕ) (r p : ℕ) → Ready g offsets → r < rules g → p ≡ getD offsets r 0 → p < length g
 left-room g offsets r p w h e = omega (arith, length-room g offsets r p w h e)
@@ -101,7 +99,7 @@ few-rules g offsets r w h = omega (arith, accepted g (w .good) .rulesFit)
 
 right-length-is : (g offsets : List ℕ) (r p v : ℕ) → Ready g offsets → r < rules g → p ≡ getD offsets r 0 → v ≡ lengthAt g p → v ≡ rightLength g r
 unfolding rightLength
-right-length-is g offsets r p v w l s f = f ∙ ap (lengthAt g) (s ∙ offset-is g offsets r w l)
+right-length-is g offsets r p v w l s f = f ∙ ap (lengthAt g) (s ∙ starts-there g offsets r w l)
 
 pub used-rule : (g offsets t : List ℕ) (n r p v : ℕ) → Ready g offsets → r ≡ getD t (8 * n) 0 → r < terminalMark → r < rules g
     → p ≡ getD offsets r 0 → v ≡ lengthAt g p → v ≡ usedSlots g t n
@@ -208,9 +206,9 @@ rule-slots g offsets t n r p v w k h e l f q =
       node = h;
       usedIs = used-rule g offsets t n r p v w e l m f q;
       short = right-seven g offsets r p v w m f q;
-      rule = f ∙ (offset-is g offsets r w m ∙ ap (ruleAt g) e);
+      rule = f ∙ (starts-there g offsets r w m ∙ ap (ruleAt g) e);
       inTable =
-          let s : p ≡ ruleAt g r = f ∙ offset-is g offsets r w m in
+          let s : p ≡ ruleAt g r = f ∙ starts-there g offsets r w m in
           omega (arith, rule-room g (w .good) r m, s, q ∙ ap (lengthAt g) s);
     }
 
@@ -264,7 +262,7 @@ pub symbol-rule : (g offsets t : List ℕ) (n r p v : ℕ) → Ready g offsets �
 unfolding symbolAtNode symbolOf
 symbol-rule g offsets t n r p v w e h l s f =
     f
-    ∙ (ap (word g) (s ∙ offset-is g offsets r w l)
+    ∙ (ap (word g) (s ∙ starts-there g offsets r w l)
     ∙ (ap (λ (x : ℕ). symbolOf g x 0) e ∙ sym (chosen (appliesRule t n) _ _ (lt→ltb (ruleOf t n) terminalMark (subst (λ (x : ℕ). x < terminalMark) e h)))))
 
 pub symbol-terminal : (g t : List ℕ) (n r : ℕ) → r ≡ getD t (8 * n) 0 → terminalMark ≤ r → r - terminalMark ≡ symbolAtNode g t n

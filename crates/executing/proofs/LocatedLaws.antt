@@ -19,7 +19,7 @@ use Rattle.grammar.proofs.AcceptedTable.{accepted, defining-occurs, occurrence-
 use Rattle.grammar.proofs.RuleStarts.{functions-rise, formed-length, rules-rise}
 use Rattle.access.specs.ByPlace.{nextFunction}
 use Rattle.access.specs.Offsets.{offsetsFor}
-use Rattle.access.proofs.Accessors.{next-function, offset-of, rule-fits}
+use Rattle.access.proofs.Accessors.{next-function, offset-is, rule-fits}
 use Rattle.executing.specs.Located.{startWords, HasRule, Located, RuleLocated}
 
 -- ---- what an accepted table says of its functions
@@ -148,10 +148,7 @@ pub next-known : {g offsets starts : List ℕ} {r n : ℕ} → AllLocated g offs
 next-known w h = omega (arith, w .endIs)
 
 pub next-start : {g offsets starts : List ℕ} {r n p : ℕ} → AllLocated g offsets starts r n → r < n → p ≡ word offsets r → p ≡ ruleAt g r
-next-start {g} {offsets} {starts} {r} w h e =
-    e
-    ∙ (ap (λ (s : List ℕ). word s r) (w .offsetsIs ∙ ap (offsetsFor g) (sym (w .good)))
-    ∙ offset-of g r (w .good) (omega (arith, w .endIs)))
+next-start {g} {offsets} {starts} {r} {n} {p} w h e = offset-is g offsets r p (w .offsetsIs) (omega (arith, w .endIs)) e
 
 pub all-turn : {g offsets starts next : List ℕ} {r n : ℕ} → AllLocated g offsets starts r n → r < n → RuleLocated g r starts next
     → AllLocated g offsets next (r + 1) n
