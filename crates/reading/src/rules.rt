@@ -8,8 +8,7 @@ use grammar::Verdict;
 use refusals::Refusal;
 ghost use mathlib.Core.Path.{_≡_};
 ghost use Prim.Native.Nat.{_<_};
-ghost use lib.Dec.{leb, eqb};
-ghost use lib.ListN.{length};
+ghost use lib.Dec.{eqb};
 ghost use Rattle.basics.specs.Lists.{word};
 ghost use Rattle.refusals.specs.declared.Refusal.the-variants as refusal;
 ghost use Rattle.grammar.specs.Table as table;
@@ -105,14 +104,7 @@ pub fn rule_fault(words: &[u16], p: usize, undefined: u64) -> Rule
     body_fault(words, p)
 }
 
-// 7: the words end with the last rule.
-fn left_over(words: &[u16], p: usize) -> Verdict
-    ensures { λ r. ⌜ r ≡ unless (leb (length (now (words .entry))) p) (refusal.LeftOver p) ⌝ }
-{
-    unless(words.len() <= p, Refusal::LeftOver(p))
-}
-
-// The end of the rules, at word p: the last one is complete, and nothing follows it.
+// The end of the rules, at word p: 6 where the last one is not complete, 7 where words are left over.
 pub fn ending_fault(words: &[u16], p: usize, undefined: u64) -> Verdict
     ensures { λ r. ⌜ r ≡ steps.endingFault (now (words .entry)) p undefined ⌝ }
 {
@@ -120,5 +112,5 @@ pub fn ending_fault(words: &[u16], p: usize, undefined: u64) -> Verdict
     let Verdict::Good = last else {
         return last;
     };
-    left_over(words, p)
+    unless(words.len() <= p, Refusal::LeftOver(p))
 }

@@ -18,8 +18,8 @@ returns : tie.Need-returns
 unfolding endingFault
 returns c = search stops
 
-left-over-requires : tie.Need-left-over-requires
-left-over-requires c κs = search needs
+unless-requires : tie.Need-unless-requires
+unless-requires c κs = search needs
 
 returns-2 : tie.Need-returns-2
 unfolding endingFault
@@ -28,4 +28,4 @@ returns-2 c = search passes
 pub ending-fault-spec : {M : Type 1} → statement M
 ending-fault-spec =
     tie.close
-    (tie.spec rule-before-requires enum-told enum-told-2 returns left-over-requires returns-2)
+    (tie.spec rule-before-requires enum-told enum-told-2 returns unless-requires returns-2)
