@@ -9,6 +9,11 @@ use lib.Dec.{T}
 use lib.IntN.{ℤ}
 use lib.ListN.{length, take, set}
 use lib.Seq.{getD-set-same, set-set, take-set-lt, getD-take}
+use Rattle.grammar.specs.declared.Verdict.the-variants.{Good}
+use Rattle.grammar.specs.Reading.{readTable}
+use Rattle.executing.specs.Located.{Located}
+use Rattle.trees.specs.Checking.{checkTree}
+use Rattle.runs.specs.Sound.{Sound}
 use Rattle.basics.specs.Lists.{word}
 use Rattle.grammar.specs.Table.{rules, functionOf, defining}
 use Rattle.grammar.proofs.AcceptedTable.{defining-occurs}
@@ -20,7 +25,7 @@ use Rattle.trees.proofs.Cells.{cell-inside}
 use Rattle.evaluating.specs.FunctionPlaces.{Valued}
 use Rattle.evaluating.proofs.ValuedLaws.{function-valued}
 use Rattle.runs.specs.declared.Ran as R
-use Rattle.grammar.specs.Limits.{mostOccurrences, ruleWords}
+use Rattle.grammar.specs.Limits.{mostOccurrences, ruleWords, planWords}
 use Rattle.plans.specs.Sequences.{sequenceAt, actionAt}
 use Rattle.runs.specs.Automaton.{Machine, functionFor, act, step, after}
 use Rattle.runs.specs.Totals.{total}
@@ -31,17 +36,24 @@ use Rattle.runs.proofs.Moments.{before-total}
 use Rattle.runs.proofs.SequenceCounts.{rule-sound}
 use Rattle.runs.proofs.ValuesWritten.{values-length, function-for}
 use Rattle.runs.proofs.EverySoundPlan.{given, top-node, top-goes-on, top-belongs, stack-once, stack-array}
-use Rattle.executing.specs.Runnable.{Runnable}
 use Rattle.executing.specs.State.{stackOf, placesOf, machineOf}
 use Rattle.executing.proofs.StateLaws.{stack-length, places-length, uncovered}
 
-pub facts-of : {g p t starts : List ℕ} {entry : List ℤ} → Runnable g p t starts entry → RunGiven g p t (length entry)
+-- What the loop of a run has: an accepted table, a sound plan, an accepted tree, and where the functions start.
+pub record RunReady (g p t starts : List ℕ) (entry : List ℤ) : Type 0 where
+  pub good : readTable g ≡ Good
+  pub sound : Sound g p
+  pub planned : planWords (rules g) ≤ length p
+  pub tree : checkTree g t (length entry) ≡ Good
+  pub located : Located g starts
+
+pub facts-of : {g p t starts : List ℕ} {entry : List ℤ} → RunReady g p t starts entry → RunGiven g p t (length entry)
 facts-of {g} {p} {t} {starts} {entry} k = given g p t entry (k .good) (k .sound) (k .tree)
 
 -- The arrays hold the automaton after `count` actions, with node n of rule r on top at a place.
 pub record Core (g p t starts : List ℕ) (entry : List ℤ) (stack marks places : List ℕ) (depth n r place : ℕ) (values : List ℤ) (count budget : ℕ) :
     Type 0 where
-  pub checked : Runnable g p t starts entry
+  pub checked : RunReady g p t starts entry
   pub stackSize : length stack ≡ 1024
   pub marksSize : length marks ≡ 1024
   pub placesSize : length places ≡ 1024
@@ -52,7 +64,7 @@ pub record Core (g p t starts : List ℕ) (entry : List ℤ) (stack marks places
 
 module _ {g p t starts : List ℕ} {entry : List ℤ} {stack marks places : List ℕ} {depth n r place : ℕ} {values : List ℤ} {count budget : ℕ}
     (w : Core g p t starts entry stack marks places depth n r place values count budget) where
-  k : Runnable g p t starts entry
+  k : RunReady g p t starts entry
   k = w .checked
 
   pub facts : RunGiven g p t (length entry)

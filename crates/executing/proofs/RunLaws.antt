@@ -16,10 +16,15 @@ use Rattle.plans.specs.Sequences.{sequenceAt, actionAt}
 use Rattle.runs.specs.Automaton.{started, after}
 use Rattle.runs.specs.Run.{ran}
 use Rattle.runs.proofs.Steps.{all-zero}
-use Rattle.executing.specs.Runnable.{Runnable}
+use Rattle.grammar.specs.declared.Verdict.the-variants.{Good}
+use Rattle.grammar.specs.Table.{rules}
+use Rattle.grammar.specs.Reading.{readTable}
+use Rattle.trees.specs.Checking.{checkTree}
+use Rattle.runs.specs.Sound.{Sound}
+use Rattle.executing.specs.Located.{Located}
 use Rattle.executing.specs.State.{stackOf, relative, placesOf, machineOf, written, Placed, Standing, Visited, Resumed}
 use Rattle.executing.proofs.StateLaws.{same-machine}
-use Rattle.executing.proofs.HeldLaws.{Core, facts, facts-of, values-kept, inside, rule-known, shallow, place-fits, core-valued, core-cell}
+use Rattle.executing.proofs.HeldLaws.{RunReady, Core, facts, facts-of, values-kept, inside, rule-known, shallow, place-fits, core-valued, core-cell}
 use Rattle.executing.proofs.TurnLaws.{core-compute, core-visit, core-leave, core-done, core-done-values, core-parent, core-stopped, core-stopped-values}
 
 -- the places of a tree's nodes are zeros where all places are
@@ -64,7 +69,7 @@ pub record Left (g p t starts : List ℕ) (entry : List ℤ) (stack marks places
   pub runs : Running g p t starts entry stack marks places depth n r place values (budget - left) budget
 
 -- "It starts with the root at its first action."
-checked-start : {g p t starts : List ℕ} {entry : List ℤ} {r : ℕ} → Runnable g p t starts entry → r ≡ ruleOf t 0 → (budget : ℕ)
+checked-start : {g p t starts : List ℕ} {entry : List ℤ} {r : ℕ} → RunReady g p t starts entry → r ≡ ruleOf t 0 → (budget : ℕ)
     → Core g p t starts entry (replicate mostNodes 0) (replicate mostNodes 0) (replicate mostNodes 0) 0 0 r 0 entry 0 budget
 unfolding machineOf stackOf placesOf started after
 checked-start {g} {p} {t} {starts} {entry} k e budget =
@@ -84,9 +89,10 @@ checked-start {g} {p} {t} {starts} {entry} k e budget =
       allowed = omega arith;
     }
 
-module _ (g p t starts : List ℕ) (entry : List ℤ) (k : Runnable g p t starts entry) where
+module _ (g p t starts : List ℕ) (entry : List ℤ) (good : readTable g ≡ Good) (sound : Sound g p) (planned : planWords (rules g) ≤ length p)
+    (tree : checkTree g t (length entry) ≡ Good) (located : Located g starts) where
   begun : (budget : ℕ) → Core g p t starts entry (replicate mostNodes 0) (replicate mostNodes 0) (replicate mostNodes 0) 0 0 (ruleOf t 0) 0 entry 0 budget
-  begun = checked-start k refl
+  begun = checked-start (record { good = good; sound = sound; planned = planned; tree = tree; located = located }) refl
 
   pub root-placed : Placed t 0
   root-placed =

@@ -1,3 +1,2 @@
 pub mod Located
 pub mod State
-pub mod Runnable

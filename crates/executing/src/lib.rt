@@ -23,7 +23,6 @@ ghost use Rattle.evaluating.specs.FunctionPlaces.{Valued};
 ghost use Rattle.runs.specs.Sound.{Sound};
 ghost use Rattle.runs.specs.Run as runs;
 ghost use Rattle.executing.specs.Located as located;
-ghost use Rattle.executing.specs.Runnable.{Runnable};
 ghost use Rattle.executing.specs.State as state;
 
 // For each occurrence of each rule a word.
@@ -174,20 +173,26 @@ fn push(stack: &mut Nodes, marks: &mut Nodes, depth: usize, n: usize, at: usize)
     marks[depth] = at as u16;
 }
 
-// The loop of a run: a compute writes one value, a visit pushes the child, a leave pops, until the stack is empty or the budget is used up.
+// Runs the plan over the tree until the stack is empty or the budget is used up: a compute writes one value, a visit pushes the child, a leave pops.
 // The node on top goes on word by word of the plan; its place is written when it is left, and read when it is visited again.
-fn walk(
+pub fn execute(
     words: &[u16],
-    starts: &Starts,
+    offsets: &Offsets,
     plan: &[u16],
     tree: &[u16],
     values: &mut [i32],
     budget: u32,
 ) -> Ran
-    requires { ⌜ Runnable (now words) (now plan) (now tree) (now starts) (now values) ⌝ }
+    requires { ⌜ readTable (now words) ≡ Good ⌝ }
+    requires { ⌜ now offsets ≡ offsetsFor (now words) Good ⌝ }
+    requires { ⌜ Sound (now words) (now plan) ⌝ }
+    requires { ⌜ planWords (table.rules (now words)) ≤ length (now plan) ⌝ }
+    requires { ⌜ checkTree (now words) (now tree) (length (now values)) ≡ Good ⌝ }
     ensures { λ r. ⌜ r ≡ runs.ran (now (words .entry)) (now (plan .entry)) (now (tree .entry)) (now (values .entry)) budget .answer ⌝ }
     ensures { λ _. ⌜ now (values .exit) ≡ runs.ran (now (words .entry)) (now (plan .entry)) (now (tree .entry)) (now (values .entry)) budget .machine .values ⌝ }
 {
+    let mut starts = [0u16; STARTS];
+    function_starts(words, offsets, &mut starts);
     // The nodes below the one on top, and for each the plan's word at which it goes on.
     let mut stack = [0u16; MOST_NODES];
     let mut marks = [0u16; MOST_NODES];
@@ -206,7 +211,7 @@ fn walk(
         left -= 1;
         let action = known(plan, at);
         if action < 64 {
-            compute(words, start_of(starts, r, action), tree, values, n, action);
+            compute(words, start_of(&starts, r, action), tree, values, n, action);
             at += 1;
             continue;
         }
@@ -229,26 +234,4 @@ fn walk(
         r = below.r;
         at = below.at;
     }
-}
-
-// Runs the plan over the tree.
-pub fn execute(
-    words: &[u16],
-    offsets: &Offsets,
-    plan: &[u16],
-    tree: &[u16],
-    values: &mut [i32],
-    budget: u32,
-) -> Ran
-    requires { ⌜ readTable (now words) ≡ Good ⌝ }
-    requires { ⌜ now offsets ≡ offsetsFor (now words) Good ⌝ }
-    requires { ⌜ Sound (now words) (now plan) ⌝ }
-    requires { ⌜ planWords (table.rules (now words)) ≤ length (now plan) ⌝ }
-    requires { ⌜ checkTree (now words) (now tree) (length (now values)) ≡ Good ⌝ }
-    ensures { λ r. ⌜ r ≡ runs.ran (now (words .entry)) (now (plan .entry)) (now (tree .entry)) (now (values .entry)) budget .answer ⌝ }
-    ensures { λ _. ⌜ now (values .exit) ≡ runs.ran (now (words .entry)) (now (plan .entry)) (now (tree .entry)) (now (values .entry)) budget .machine .values ⌝ }
-{
-    let mut starts = [0u16; STARTS];
-    function_starts(words, offsets, &mut starts);
-    walk(words, &starts, plan, tree, values, budget)
 }

@@ -1,4 +1,4 @@
--- `executing::walk` meets its contract. The invariant Left: the arrays hold the automaton after as many steps as the budget has lost, the node on top is at
+-- `executing::execute` meets its contract. The invariant Left: the arrays hold the automaton after as many steps as the budget has lost, the node on top is at
 -- the plan's word `at`, and its place is the word's distance from where its sequence starts. A budget used up with a node on top says that the total
 -- is not reached; a leave that finds no node below says that it is. Assumes nothing.
 use native.Mathlib.Omega.{arith}
@@ -19,16 +19,19 @@ use Rattle.executing.proofs.RunLaws.{
   done-answer,
   done-values,
 }
-use Rattle.executing.proofs.walk.Statement.{statement}
-use Rattle.executing.proofs.walk.Tie as tie
+use Rattle.executing.proofs.execute.Statement.{statement}
+use Rattle.executing.proofs.execute.Tie as tie
 
 abbrev Inv-loop : tie.InvT-loop
-Inv-loop words starts plan tree values₀ budget stack₀ marks₀ places₀ depth₀ n₀ r₀ at₀ left₀ values stack marks places depth n r at left =
+Inv-loop words offsets plan tree values₀ budget starts stack₀ marks₀ places₀ depth₀ n₀ r₀ at₀ left₀ values stack marks places depth n r at left =
     Left words plan tree starts values₀ stack marks places depth n r at values left budget
 
 abbrev μ-loop : tie.MeasureT-loop
-μ-loop words starts plan tree values₀ budget stack₀ marks₀ places₀ depth₀ n₀ r₀ at₀ left₀ values stack marks places depth n r at left =
+μ-loop words offsets plan tree values₀ budget starts stack₀ marks₀ places₀ depth₀ n₀ r₀ at₀ left₀ values stack marks places depth n r at left =
     left
+
+function-starts-requires : tie.Need-function-starts-requires Inv-loop μ-loop
+function-starts-requires c κs = search needs
 
 top-at-requires : tie.Need-top-at-requires Inv-loop μ-loop
 top-at-requires c κs = (search root-placed, search needs)
@@ -53,10 +56,11 @@ start-of-requires c κs = search needs
 
 compute-requires : tie.Need-compute-requires Inv-loop μ-loop
 compute-requires c κs =
-    let acts = c .before .before .before in
+    let test = c .before .before .before in
+    let acts = test .before in
     let turn = acts .before .before in (
-      valued (turn .loop .inv) (acts .before .if1 .left) (acts .known .ensures .0) (c .before .before .if2 .taken) (c .before .start-of .ensures .0),
-      (search needs, search cell-there),
+      valued (turn .loop .inv) (acts .before .if1 .left) (acts .known .ensures .0) (test .if2 .taken) (c .before .start-of .ensures .0),
+      (search needs, cell-there (turn .loop .inv) (acts .before .if1 .left) (acts .known .ensures .0) (test .if2 .taken)),
     )
 
 add-at : tie.Need-add-at Inv-loop μ-loop
@@ -68,9 +72,10 @@ loop-less c = search needs
 loop-again : tie.Need-loop-again Inv-loop μ-loop
 loop-again c =
     let found = c .before .before .before in
-    let acts = found .before .before in
+    let test = found .before .before in
+    let acts = test .before in
     let turn = acts .before .before in
-    turn-compute (turn .loop .inv) (acts .before .if1 .left) (acts .known .ensures .0) (found .before .if2 .taken) (found .start-of .ensures .0)
+    turn-compute (turn .loop .inv) (acts .before .if1 .left) (acts .known .ensures .0) (test .if2 .taken) (found .start-of .ensures .0)
     (c .before .compute .ensures)
 
 add-push : tie.Need-add-push Inv-loop μ-loop
@@ -115,8 +120,8 @@ mul-places c = search needs
 array-write-places : tie.Need-array-write-places Inv-loop μ-loop
 array-write-places c = search needs
 
-sub-t37 : tie.Need-sub-t37 Inv-loop μ-loop
-sub-t37 c = search needs
+sub-t41 : tie.Need-sub-t41 Inv-loop μ-loop
+sub-t41 c = search needs
 
 same-length-2 : tie.Need-same-length-2 Inv-loop μ-loop
 same-length-2 c = search needs
@@ -145,12 +150,13 @@ loop-again-3 c =
     turn-leave (turn .loop .inv) (acts .before .if1 .left) (acts .known .ensures .0) (omega arith) (popped .if4 .left)
     (popped .before .first-action .ensures) (c .node-below .ensures)
 
-pub walk-spec : {M : Type 1} → statement M
-walk-spec =
+pub execute-spec : {M : Type 1} → statement M
+execute-spec =
     tie.close
     (tie.spec
     Inv-loop
     μ-loop
+    function-starts-requires
     top-at-requires
     loop-holds
     same-length
@@ -174,7 +180,7 @@ walk-spec =
     cast-places
     mul-places
     array-write-places
-    sub-t37
+    sub-t41
     same-length-2
     returns-2
     sub-depth
