@@ -20,7 +20,7 @@ use Rattle.grammar.specs.Table.{argumentWords, isConstant, functionOf, operatio
 use Rattle.trees.specs.Tree.{ruleOf, nodeAt, cell}
 use Rattle.trees.specs.Equations.{valueAt, argumentValue, functionValue}
 use Rattle.trees.proofs.Cells.{cell-is}
-use Rattle.evaluating.specs.FunctionPlaces.{operationAt, argumentAt, argumentsAt, occurrenceValue, argumentFrom, valueFrom, Named}
+use Rattle.evaluating.specs.FunctionPlaces.{operationAt, argumentAt, argumentsAt, occurrenceValue, argumentGiven, valueFrom, Named}
 
 -- ---- a value in the machine is read back whole
 
@@ -71,8 +71,8 @@ words-four op h =
 module _ (g t : List ℕ) (values : List ℤ) (n f : ℕ) where
   -- ---- the arguments
 
-  constant-argument : (j : ℕ) → operationAt g f ≡ 0 → argumentFrom g t values n f j ≡ constant (argumentAt g f 0)
-  unfolding argumentFrom
+  constant-argument : (j : ℕ) → operationAt g f ≡ 0 → argumentGiven g t values n f j ≡ constant (argumentAt g f 0)
+  unfolding argumentGiven
   constant-argument j e = chosen (isConstant (operationAt g f)) _ _ (eq-T (operationAt g f) 0 e)
 
   no-constant : 1 ≤ operationAt g f → T (not (isConstant (operationAt g f)))
@@ -83,24 +83,24 @@ module _ (g t : List ℕ) (values : List ℤ) (n f : ℕ) where
 
   -- an argument that the operation has is the value of its occurrence
   given-argument : (j q : ℕ) → 1 ≤ operationAt g f → j < argumentWords (operationAt g f) → f + 2 + j ≡ q
-      → argumentFrom g t values n f j ≡ occurrenceValue t values n (word g q)
-  unfolding argumentFrom
+      → argumentGiven g t values n f j ≡ occurrenceValue t values n (word g q)
+  unfolding argumentGiven
   given-argument j q h l e =
       passed-over (isConstant (operationAt g f)) _ _ (no-constant h)
       ∙ (chosen (ltb j (argumentsAt g f)) _ _ (lt→ltb j (argumentsAt g f) (omega (arith, arguments-words h)))
       ∙ ap (λ (p : ℕ). occurrenceValue t values n (word g p)) e)
 
   -- one that it does not have is 0
-  absent-argument : (j : ℕ) → 1 ≤ operationAt g f → argumentWords (operationAt g f) ≤ j → argumentFrom g t values n f j ≡ pos 0
-  unfolding argumentFrom
+  absent-argument : (j : ℕ) → 1 ≤ operationAt g f → argumentWords (operationAt g f) ≤ j → argumentGiven g t values n f j ≡ pos 0
+  unfolding argumentGiven
   absent-argument j h l =
       passed-over (isConstant (operationAt g f)) _ _ (no-constant h)
       ∙ passed-over (ltb j (argumentsAt g f)) _ _ (false-T _ (le-ltb j (argumentsAt g f) (omega (arith, arguments-words h))))
 
   -- ---- the value, by the operation
 
-  from-arguments : {op : ℕ} {x y z u : ℤ} → op ≡ operationAt g f → x ≡ argumentFrom g t values n f 0 → y ≡ argumentFrom g t values n f 1
-      → z ≡ argumentFrom g t values n f 2 → u ≡ argumentFrom g t values n f 3 → result op x y z u ≡ valueFrom g t values n f
+  from-arguments : {op : ℕ} {x y z u : ℤ} → op ≡ operationAt g f → x ≡ argumentGiven g t values n f 0 → y ≡ argumentGiven g t values n f 1
+      → z ≡ argumentGiven g t values n f 2 → u ≡ argumentGiven g t values n f 3 → result op x y z u ≡ valueFrom g t values n f
   unfolding valueFrom
   from-arguments e a b c d = λ i. result (e i) (a i) (b i) (c i) (d i)
 
@@ -125,10 +125,10 @@ module _ (g t : List ℕ) (values : List ℤ) (n f : ℕ) where
   module _ {op : ℕ} {x y : ℤ} (e : op ≡ operationAt g f) (above : 1 < op)
       (a : x ≡ occurrenceValue t values n (word g (f + 2))) (a′ : mag x < 2 ^ 31)
       (b : y ≡ occurrenceValue t values n (word g (f + 3))) (b′ : mag y < 2 ^ 31) where
-    first : 0 < argumentWords (operationAt g f) → toZ w32 (ofZ w32 x) ≡ argumentFrom g t values n f 0
+    first : 0 < argumentWords (operationAt g f) → toZ w32 (ofZ w32 x) ≡ argumentGiven g t values n f 0
     first h = kept a′ (a ∙ sym (given-argument 0 (f + 2) (omega arith) h (omega arith)))
 
-    second : 1 < argumentWords (operationAt g f) → toZ w32 (ofZ w32 y) ≡ argumentFrom g t values n f 1
+    second : 1 < argumentWords (operationAt g f) → toZ w32 (ofZ w32 y) ≡ argumentGiven g t values n f 1
     second h = kept b′ (b ∙ sym (given-argument 1 (f + 3) (omega arith) h (omega arith)))
 
     -- operations of two arguments
@@ -140,7 +140,7 @@ module _ (g t : List ℕ) (values : List ℤ) (n f : ℕ) where
         (sym (absent-argument 3 (omega arith) (omega arith))))
 
     module _ {z : ℤ} (c : z ≡ occurrenceValue t values n (word g (f + 4))) (c′ : mag z < 2 ^ 31) where
-      third : 2 < argumentWords (operationAt g f) → toZ w32 (ofZ w32 z) ≡ argumentFrom g t values n f 2
+      third : 2 < argumentWords (operationAt g f) → toZ w32 (ofZ w32 z) ≡ argumentGiven g t values n f 2
       third h = kept c′ (c ∙ sym (given-argument 2 (f + 4) (omega arith) h (omega arith)))
 
       -- of three
@@ -169,5 +169,5 @@ from-eight a b c d e f g h = past 7 (past 6 (past 5 (past 4 (past 3 (past 2 (pas
 
 -- function k of the rule at node n, by the word at which it starts
 pub by-number : (g t : List ℕ) (values : List ℤ) (n k f : ℕ) → f ≡ functionOf g (ruleOf t n) k → valueFrom g t values n f ≡ functionValue g t values n k
-unfolding valueFrom argumentFrom functionValue argumentValue operation argument arguments
+unfolding valueFrom argumentGiven functionValue argumentValue operation argument arguments
 by-number g t values n k f e = ap (λ (x : ℕ). valueFrom g t values n x) e

@@ -28,16 +28,16 @@ abbrev pub occurrenceValue : List ℕ → List ℤ → ℕ → ℕ → ℤ
 occurrenceValue t values n o = valueAt values (cell t n o)
 
 -- argument j of the function: the constant of operation 0, else the value of the occurrence; an operation looks no further
-unfoldable pub argumentFrom : List ℕ → List ℕ → List ℤ → ℕ → ℕ → ℕ → ℤ
-argumentFrom g t values n f j =
+unfoldable pub argumentGiven : List ℕ → List ℕ → List ℤ → ℕ → ℕ → ℕ → ℤ
+argumentGiven g t values n f j =
     cond (isConstant (operationAt g f)) (constant (argumentAt g f 0))
     (cond (ltb j (argumentsAt g f)) (occurrenceValue t values n (argumentAt g f j)) (pos 0))
 
 -- the value that the function gives
 unfoldable pub valueFrom : List ℕ → List ℕ → List ℤ → ℕ → ℕ → ℤ
 valueFrom g t values n f =
-    result (operationAt g f) (argumentFrom g t values n f 0) (argumentFrom g t values n f 1) (argumentFrom g t values n f 2)
-    (argumentFrom g t values n f 3)
+    result (operationAt g f) (argumentGiven g t values n f 0) (argumentGiven g t values n f 1) (argumentGiven g t values n f 2)
+    (argumentGiven g t values n f 3)
 
 -- The argument word at q is there, and so is the value of the occurrence that it names at node n, among l values.
 pub record Named (g : List ℕ) (q : ℕ) (t : List ℕ) (n l : ℕ) : Type 0 where

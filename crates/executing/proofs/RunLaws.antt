@@ -61,7 +61,7 @@ running w =
     }
 
 -- The loop's invariant: what is left of the budget says how many actions are done, and the plan's word says the place.
-pub record Left (g p t starts : List ℕ) (entry : List ℤ) (stack marks places : List ℕ) (depth n r at : ℕ) (values : List ℤ) (left budget : ℕ) :
+pub record LoopAt (g p t starts : List ℕ) (entry : List ℤ) (stack marks places : List ℕ) (depth n r at : ℕ) (values : List ℤ) (left budget : ℕ) :
     Type 0 where
   pub most : left ≤ budget
   pub place : ℕ
@@ -100,7 +100,7 @@ module _ (g p t starts : List ℕ) (entry : List ℤ) (good : readTable g ≡ Go
       record { inside = w .node; small = omega (arith, w .node, w .nodesFit); rule = w .rule }
 
   pub left-start : {n r at : ℕ} → Standing t 0 0 n r at → (budget : ℕ)
-      → Left g p t starts entry (replicate mostNodes 0) (replicate mostNodes 0) (replicate mostNodes 0) 0 n r at entry budget budget
+      → LoopAt g p t starts entry (replicate mostNodes 0) (replicate mostNodes 0) (replicate mostNodes 0) 0 n r at entry budget budget
   left-start {n} {r} {at} s budget =
       let none : 0 ≡ budget - budget = omega arith in
       let zeros : List ℕ = replicate mostNodes 0 in
@@ -116,7 +116,7 @@ module _ (g p t starts : List ℕ) (entry : List ℤ) (good : readTable g ≡ Go
       }
 
 module _ {g p t starts : List ℕ} {entry : List ℤ} {stack marks places : List ℕ} {depth n r at : ℕ} {values : List ℤ} {left budget : ℕ}
-    (w : Left g p t starts entry stack marks places depth n r at values left budget) where
+    (w : LoopAt g p t starts entry stack marks places depth n r at values left budget) where
   top : Core g p t starts entry stack marks places depth n r (w .place) values (budget - left) budget
   top = w .runs .core
 
@@ -154,7 +154,7 @@ module _ {g p t starts : List ℕ} {entry : List ℤ} {stack marks places : List
 
     -- one action more
     pub turn-compute : action < 64 → {f : ℕ} → f ≡ word starts (mostOccurrences * r + action) → {after : List ℤ} → after ≡ written g t values n action f
-        → Left g p t starts entry stack marks places depth n r (at + 1) after (left - 1) budget
+        → LoopAt g p t starts entry stack marks places depth n r (at + 1) after (left - 1) budget
     turn-compute h e {after} q =
         record {
           most = omega (arith, w .most);
@@ -167,10 +167,10 @@ module _ {g p t starts : List ℕ} {entry : List ℤ} {stack marks places : List
 
     pub turn-visit : 64 ≤ action → action < 128 → {stack′ marks′ : List ℕ} {c r′ q : ℕ} → stack′ ≡ set stack depth n → marks′ ≡ set marks depth (at + 1)
         → Visited t places n ((action - 64) / 8) c r′ q
-        → Left g p t starts entry stack′ marks′ places (depth + 1) c r′ q values (left - 1) budget
+        → LoopAt g p t starts entry stack′ marks′ places (depth + 1) c r′ q values (left - 1) budget
     turn-visit h l {stack′} {marks′} {c} {r′} {q} a b v =
-        subst⁻¹ (λ (s : List ℕ). Left g p t starts entry s marks′ places (depth + 1) c r′ q values (left - 1) budget) a
-        (subst⁻¹ (λ (m : List ℕ). Left g p t starts entry (set stack depth n) m places (depth + 1) c r′ q values (left - 1) budget) b
+        subst⁻¹ (λ (s : List ℕ). LoopAt g p t starts entry s marks′ places (depth + 1) c r′ q values (left - 1) budget) a
+        (subst⁻¹ (λ (m : List ℕ). LoopAt g p t starts entry (set stack depth n) m places (depth + 1) c r′ q values (left - 1) budget) b
         (record {
           most = omega (arith, w .most);
           place = word places c;
@@ -182,7 +182,7 @@ module _ {g p t starts : List ℕ} {entry : List ℤ} {stack marks places : List
         }))
 
     pub turn-leave : 128 ≤ action → (depth ≡ 0 → ⊥) → {x m r′ q : ℕ} → x ≡ sequenceAt r + 1 → Resumed t stack marks (depth - 1) m r′ q
-        → Left g p t starts entry stack marks (set places n (at + 1 - x)) (depth - 1) m r′ q values (left - 1) budget
+        → LoopAt g p t starts entry stack marks (set places n (at + 1 - x)) (depth - 1) m r′ q values (left - 1) budget
     turn-leave h d {x} {m} {r′} {q} i v =
         record {
           most = omega (arith, w .most);

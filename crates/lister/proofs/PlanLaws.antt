@@ -28,7 +28,7 @@ use Rattle.plans.proofs.PlanWords.{numbers-same, sequence-stands}
 use Rattle.runs.proofs.SameSets.{visits-same}
 use Rattle.text.specs.Lines.{decimal, spaced, line, symbolWord, ruleWord, planWord}
 use Rattle.text.specs.Listing.{firstLine, symbolLine, ruleLine, planText}
-use Rattle.lister.specs.Shown.{Shows, Adds, setNumbers, symbolNumbers, actionsOf, ruleLineOf, planLines}
+use Rattle.lister.specs.Shown.{Shows, Adds, setNumbers, symbolNumbers, actionsIn, ruleLineOf, planLines}
 use Rattle.lister.proofs.ShownLaws.{adds-none, adds-then, adds-same, from-start}
 use Rattle.lister.proofs.LineLaws.{NumbersTo, numbers-turn, numbers-end, one-number, more-numbers, whole-line, two-line}
 
@@ -81,15 +81,15 @@ unfolding actionAt
 actions-turn p r n j v h s t e = numbers-turn (actionAt p r) n j v h s t e
 
 pub actions-end : {o o₁ : List ℕ} {a a₁ : ℕ} (p : List ℕ) (r n j : ℕ) → n ≡ getD p (planWords r) 0 → n ≤ j
-    → NumbersTo (actionAt p r) n o a j o₁ a₁ → Adds o a (spaced (actionsOf p r)) o₁ a₁
-unfolding actionsOf sequenceLength
+    → NumbersTo (actionAt p r) n o a j o₁ a₁ → Adds o a (spaced (actionsIn p r)) o₁ a₁
+unfolding actionsIn sequenceLength
 actions-end p r n j e h s = numbers-end (actionAt p r) n (getD p (planWords r) 0) j e h s
 
 pub rule-line-typed : {o o₁ o₂ o₃ o₄ : List ℕ} {a a₁ a₂ a₃ a₄ : ℕ} (p : List ℕ) (r : ℕ) → Adds o a (114 ∷ []) o₁ a₁
-    → Adds o₁ a₁ (32 ∷ decimal r) o₂ a₂ → Adds o₂ a₂ (spaced (actionsOf p r)) o₃ a₃ → Adds o₃ a₃ (10 ∷ []) o₄ a₄
+    → Adds o₁ a₁ (32 ∷ decimal r) o₂ a₂ → Adds o₂ a₂ (spaced (actionsIn p r)) o₃ a₃ → Adds o₃ a₃ (10 ∷ []) o₄ a₄
     → Adds o a (ruleLineOf p r) o₄ a₄
 unfolding ruleLineOf
-rule-line-typed p r w s t v = whole-line (r ∷ actionsOf p r) w (more-numbers (r ∷ []) (actionsOf p r) (one-number r s) t) v
+rule-line-typed p r w s t v = whole-line (r ∷ actionsIn p r) w (more-numbers (r ∷ []) (actionsIn p r) (one-number r s) t) v
 
 -- all lines
 pub plan-lines-typed : {o o₁ o₂ o₃ : List ℕ} {a₁ a₂ a₃ : ℕ} (g p : List ℕ) → Adds o 0 (firstLine g) o₁ a₁
@@ -130,13 +130,13 @@ module _ (g : List ℕ) (good : readTable g ≡ Good) (lent : List ℕ) where
       (ap₂ (λ (v : ℕ) (l : List ℕ). line symbolWord (x ∷ v ∷ l)) (visits-same g p s w all x (omega (arith, w .symbolsFit)))
       (tabulate-same (attributes g x) (λ a. setNumber p x a) (λ a. setNumber s x a) (λ a l. numbers a (omega arith))))
 
-  actions-same : (r : ℕ) → r < rules g → actionsOf p r ≡ sequencesOf g r
-  unfolding actionsOf sequencesOf
+  actions-same : (r : ℕ) → r < rules g → actionsIn p r ≡ sequencesOf g r
+  unfolding actionsIn sequencesOf
   actions-same r h =
       let out : List ℕ = sequenceOf g (idsOf g) s r in
-      let long : length (actionsOf p r) ≡ length (sequenceOf g (idsOf g) s r) =
+      let long : length (actionsIn p r) ≡ length (sequenceOf g (idsOf g) s r) =
       length-tabulate (sequenceLength p r) (λ j. actionAt p r j) ∙ sequence-stands g lent r h .lengthIs in
-      ext-getD 0 (actionsOf p r) (sequenceOf g (idsOf g) s r) long
+      ext-getD 0 (actionsIn p r) (sequenceOf g (idsOf g) s r) long
       (λ j l. getD-tabulate (sequenceLength p r) (λ k. actionAt p r k) 0 j (omega (arith, long, sequence-stands g lent r h .lengthIs))
       ∙ sequence-stands g lent r h .actionIs j (omega (arith, long)))
 

@@ -44,11 +44,11 @@ abbrev pub symbolNumbers : List ℕ → List ℕ → ℕ → List ℕ
 symbolNumbers g p x = x ∷ visits p x ∷ setNumbers g p x
 
 -- the actions of rule r in the words of plan p
-unfoldable pub actionsOf : List ℕ → ℕ → List ℕ
-actionsOf p r = tabulate (sequenceLength p r) (λ j. actionAt p r j)
+unfoldable pub actionsIn : List ℕ → ℕ → List ℕ
+actionsIn p r = tabulate (sequenceLength p r) (λ j. actionAt p r j)
 
 unfoldable pub ruleLineOf : List ℕ → ℕ → List ℕ
-ruleLineOf p r = line ruleWord (r ∷ actionsOf p r)
+ruleLineOf p r = line ruleWord (r ∷ actionsIn p r)
 
 -- the lines of a plan by its words
 unfoldable pub planLines : List ℕ → List ℕ → List ℕ

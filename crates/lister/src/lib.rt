@@ -134,7 +134,7 @@ fn symbol_line(words: &[u16], plan: &[u16], x: usize, out: &mut [u8], at: usize)
 // The actions of rule r.
 fn actions(plan: &[u16], r: usize, out: &mut [u8], at: usize) -> usize
     requires { ⌜ r < 65536 ⌝ }
-    ensures { λ n. ⌜ shown.Adds (now (out .entry)) at (lines.spaced (shown.actionsOf (now (plan .entry)) r)) (now (out .exit)) n ⌝ }
+    ensures { λ n. ⌜ shown.Adds (now (out .entry)) at (lines.spaced (shown.actionsIn (now (plan .entry)) r)) (now (out .exit)) n ⌝ }
 {
     let from = SET_WORDS + RULE_WORDS * r;
     let mut to = at;

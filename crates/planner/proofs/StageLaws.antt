@@ -55,7 +55,7 @@ use Rattle.plans.specs.Answer.{
 use Rattle.plans.proofs.Answers.{no-idp-cycle, no-edp-cycle, comes}
 use Rattle.plans.proofs.Ordered.{CycleFree, free-accepted}
 use Rattle.planner.specs.Answered.{Answered}
-use Rattle.planner.specs.Stages.{Read, Noncircular, Ordered, Came, sets, afterEight, afterNine}
+use Rattle.planner.specs.Stages.{Read, Noncircular, OrderedStage, Came, sets, afterEight, afterNine}
 use Rattle.planner.proofs.RoomLaws.{rows-room, plan-room}
 use Rattle.planner.proofs.WriteLaws.{over-over}
 
@@ -172,7 +172,7 @@ ten-came g rows₀ plan₀ next n r o l f m j e =
 -- what the plan is written from
 pub ordered-ready : (g offsets ids s rows₀ next : List ℕ) (planLength n : ℕ) (l : Cycle) → next ≡ over (rowsOf g (edps g)) rows₀
     → s ≡ setsOf g ids → Noncircular g offsets ids rows₀ planLength → l ≡ cycleIn next n → n ≡ rules g → l ≡ Nothing
-    → Ordered g offsets s next planLength
+    → OrderedStage g offsets s next planLength
 ordered-ready g offsets ids s rows₀ next planLength n l f es w j m e =
     record {
       good = w .read .good;

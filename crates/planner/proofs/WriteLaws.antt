@@ -24,7 +24,7 @@ use Rattle.plans.proofs.Answers.{no-idp-cycle, no-edp-cycle}
 use Rattle.access.proofs.Accessors.{offset-is}
 use Rattle.plans.proofs.RowWords.{over-size, over-row}
 use Rattle.sequencing.specs.Given.{RuleGiven as Given, withBlock as written}
-use Rattle.planner.specs.Stages.{Ordered, sets}
+use Rattle.planner.specs.Stages.{OrderedStage, sets}
 
 -- a block written after what is already written
 over-written : (done block lent : List ℕ) → written (over done lent) (length done) block ≡ over (done ++ block) lent
@@ -72,24 +72,24 @@ accepted-length g = done-length g (rules g)
 
 -- the set words and the first r sequences are written
 pub record PlanTo (g offsets s rows entry plan : List ℕ) (r : ℕ) : Type 0 where
-  pub ready : Ordered g offsets s rows (length entry)
+  pub ready : OrderedStage g offsets s rows (length entry)
   pub inside : r ≤ rules g
   pub words : plan ≡ over (sets g ++ sequences g r) entry
 
-pub plan-start : (g offsets s rows lent entry : List ℕ) → Ordered g offsets s rows (length lent) → entry ≡ written lent 0 s
+pub plan-start : (g offsets s rows lent entry : List ℕ) → OrderedStage g offsets s rows (length lent) → entry ≡ written lent 0 s
     → PlanTo g offsets s rows entry entry 0
 unfolding blocks
 plan-start g offsets s rows lent entry w e =
     let q : entry ≡ over (sets g) lent = e ∙ (first-written s lent ∙ ap (λ (x : List ℕ). over x lent) (w .setsAre)) in
     record {
-      ready = subst⁻¹ (Ordered g offsets s rows) (ap length q ∙ over-size (sets g) lent (omega (arith, length-sets g (idsOf g), w .planRoom))) w;
+      ready = subst⁻¹ (OrderedStage g offsets s rows) (ap length q ∙ over-size (sets g) lent (omega (arith, length-sets g (idsOf g), w .planRoom))) w;
       inside = omega arith;
       words =
           q ∙ (sym (over-over (sets g) (sets g) lent (omega arith))
           ∙ (ap (over (sets g)) (sym q) ∙ ap (λ (x : List ℕ). over x entry) (sym (mathlib.Core.List.append-nil (sets g)))));
     }
 
-pub write-room : (g offsets s rows : List ℕ) (n : ℕ) → Ordered g offsets s rows n → 0 + length s ≤ n
+pub write-room : (g offsets s rows : List ℕ) (n : ℕ) → OrderedStage g offsets s rows n → 0 + length s ≤ n
 write-room g offsets s rows n w = omega (arith, ap length (w .setsAre), length-sets g (idsOf g), w .planRoom)
 
 pub plan-rule : (g offsets s rows entry plan : List ℕ) (r n : ℕ) → PlanTo g offsets s rows entry plan r → n ≡ rules g → r < n → r < mostRules
@@ -100,7 +100,7 @@ plan-length g offsets s rows entry plan r w =
     ap length (w .words)
     ∙ over-size (sets g ++ sequences g r) entry (omega (arith, done-length g r, w .inside, w .ready .planRoom))
 
-pub plan-kept : (g offsets s rows lent entry plan : List ℕ) (r : ℕ) → Ordered g offsets s rows (length lent) → entry ≡ written lent 0 s
+pub plan-kept : (g offsets s rows lent entry plan : List ℕ) (r : ℕ) → OrderedStage g offsets s rows (length lent) → entry ≡ written lent 0 s
     → PlanTo g offsets s rows entry plan r → length plan ≡ length lent
 plan-kept g offsets s rows lent entry plan r d e w =
     plan-length g offsets s rows entry plan r w

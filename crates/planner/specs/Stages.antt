@@ -42,7 +42,7 @@ pub record Noncircular (g offsets ids rows : List ℕ) (planLength : ℕ) : Type
   pub noIdpCycle : circular g (idpPaths g (idsOf g)) ≡ false
 
 -- no IDP and no EDP has a cycle, and the rows hold the paths of EDP
-pub record Ordered (g offsets s rows : List ℕ) (planLength : ℕ) : Type 0 where
+pub record OrderedStage (g offsets s rows : List ℕ) (planLength : ℕ) : Type 0 where
   pub good : readTable g ≡ Good
   pub starts : offsets ≡ offsetsFor g Good
   pub setsAre : s ≡ sets g

@@ -36,7 +36,7 @@ fn write_plan(
     rows: &[u64],
     plan: &mut [u16],
 )
-    requires { ⌜ ready.Ordered (now words) (now offsets) (now sets) (now rows) (length (now plan)) ⌝ }
+    requires { ⌜ ready.OrderedStage (now words) (now offsets) (now sets) (now rows) (length (now plan)) ⌝ }
     ensures { λ _. ⌜ now (plan .exit) ≡ over (answer.acceptedPlan (now (words .entry))) (now (plan .entry)) ⌝ }
 {
     sequencing::write(plan, 0, sets);

@@ -14,7 +14,7 @@ use Rattle.grammar.specs.Verdicts.{_then_, each}
 use Rattle.grammar.specs.Reading.{present, ranged, symbolFault}
 use Rattle.access.specs.ByPlace.{symbolTest, nextFunction, functionFrom}
 use Rattle.access.proofs.Laws.{stops, passes, each-none, each-more, each-stop, each-end, ranged-of, leb-of, ltb-of, right-of, count-of, ranged-le}
-use Rattle.reading.specs.Steps.{maskFault, targetFault, operandsFault, rightFault, shapeFault}
+use Rattle.reading.specs.Parts.{maskFault, targetFault, operandsFault, rightFault, shapeFault}
 
 pub then-assoc : (u v w : Verdict) → (u then v) then w ≡ u then (v then w)
 unfolding _then_

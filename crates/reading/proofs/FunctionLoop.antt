@@ -21,7 +21,7 @@ use Rattle.grammar.proofs.AcceptedSymbols.{ranged-there}
 use Rattle.grammar.proofs.VerdictLaws.{then-first, then-second, unless-passes}
 use Rattle.access.specs.ByPlace.{nextFunction, functionFrom, undefinedAfter, functionsFrom}
 use Rattle.access.proofs.Laws.{refused-good, each-none, each-more, each-stop, each-end, member-past}
-use Rattle.reading.specs.Steps.{FunctionsRead}
+use Rattle.reading.specs.Parts.{FunctionsRead}
 
 module _ (g : List ℕ) (f occurrences undefined : ℕ) (v : Verdict) (e : v ≡ functionFrom g f occurrences undefined) (k : v ≡ Good) where
   -- the target of a function that passes is there and below 64, and its operation is there

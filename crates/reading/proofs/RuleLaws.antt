@@ -18,7 +18,7 @@ use Rattle.grammar.proofs.AcceptedSymbols.{ranged-passes}
 use Rattle.grammar.proofs.RuleStarts.{functions-bound}
 use Rattle.access.specs.ByPlace.{symbolFrom, occurrencesAt, definingsAt, Shaped, Symbols, leftFrom, symbolTest, undefinedAfter, functionsFrom, bodyFrom, ruleFrom}
 use Rattle.access.proofs.Laws.{stops, passes, refused-good}
-use Rattle.reading.specs.Steps.{shapeFault, FunctionsRead, RuleRead}
+use Rattle.reading.specs.Parts.{shapeFault, FunctionsRead, RuleRead}
 use Rattle.reading.proofs.ChainLaws.{then-group}
 
 -- a left symbol that passes is a symbol of the table

@@ -23,7 +23,7 @@ use Rattle.access.specs.Offsets.{offsetsFor}
 use Rattle.access.specs.ByPlace.{Symbols, ruleFrom, nextRule, leaves}
 use Rattle.access.proofs.Laws.{stops, passes, each-none, each-more, each-stop, each-end}
 use Rattle.access.proofs.Same.{complete-same, rule-same}
-use Rattle.reading.specs.Steps.{openingFault, endingFault, RuleRead, TableRead}
+use Rattle.reading.specs.Parts.{openingFault, endingFault, RuleRead, TableRead}
 use Rattle.reading.proofs.ChainLaws.{then-group}
 
 -- ---- the opening

@@ -21,7 +21,7 @@ use Rattle.grammar.specs.Verdicts.{unless, each}
 use Rattle.grammar.specs.Reading.{present, ranged}
 use Rattle.grammar.proofs.VerdictLaws.{then-good, each-good}
 use Rattle.access.specs.ByPlace.{argumentFrom, argumentsFrom, functionFrom}
-use Rattle.reading.specs.Steps.{FourOccur, argumentsBy}
+use Rattle.reading.specs.Parts.{FourOccur, argumentsBy}
 use Rattle.access.proofs.Laws.{present-there, unless-true, each-none, each-more}
 
 -- where the answer is false, nothing is claimed

@@ -15,7 +15,7 @@ ghost use Rattle.basics.specs.Tests.{_and_, _or_};
 ghost use Rattle.grammar.specs.declared.Verdict.the-variants as verdict;
 ghost use Rattle.grammar.specs.Table as table;
 ghost use Rattle.access.specs.ByPlace as places;
-ghost use Rattle.reading.specs.Steps as steps;
+ghost use Rattle.reading.specs.Parts as steps;
 
 // Whether four words are all occurrences: each is below 64, and the set of them has nothing that the occurrences lack.
 fn four_occur(occurrences: u64, a: usize, b: usize, c: usize, d: usize) -> bool

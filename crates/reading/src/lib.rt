@@ -12,7 +12,7 @@ ghost use lib.ListN.{replicate};
 ghost use Rattle.grammar.specs.declared.Verdict.the-variants as verdict;
 ghost use Rattle.grammar.specs.Reading as reading;
 ghost use Rattle.access.specs.Offsets.{offsetsFor};
-ghost use Rattle.reading.specs.Steps as steps;
+ghost use Rattle.reading.specs.Parts as steps;
 
 mod functions;
 mod rules;

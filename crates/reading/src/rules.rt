@@ -14,7 +14,7 @@ ghost use Rattle.refusals.specs.declared.Refusal.the-variants as refusal;
 ghost use Rattle.grammar.specs.Table as table;
 ghost use Rattle.grammar.specs.Verdicts.{unless};
 ghost use Rattle.access.specs.ByPlace as places;
-ghost use Rattle.reading.specs.Steps as steps;
+ghost use Rattle.reading.specs.Parts as steps;
 
 // The left symbol of the rule at word p.
 fn left_fault(words: &[u16], p: usize) -> Verdict

@@ -12,7 +12,7 @@ ghost use Rattle.basics.specs.Tests.{_and_, _or_};
 ghost use Rattle.grammar.specs.Table as table;
 ghost use Rattle.grammar.specs.Verdicts.{each};
 ghost use Rattle.grammar.specs.Reading as reading;
-ghost use Rattle.reading.specs.Steps as steps;
+ghost use Rattle.reading.specs.Parts as steps;
 
 // S, R and the start symbol.
 fn header(words: &[u16]) -> Verdict

@@ -1,10 +1,10 @@
--- `executing::execute` meets its contract. The invariant Left: the arrays hold the automaton after as many steps as the budget has lost, the node on top is at
+-- `executing::execute` meets its contract. The invariant LoopAt: the arrays hold the automaton after as many steps as the budget has lost, the node on top is at
 -- the plan's word `at`, and its place is the word's distance from where its sequence starts. A budget used up with a node on top says that the total
 -- is not reached; a leave that finds no node below says that it is. Assumes nothing.
 use native.Mathlib.Omega.{arith}
 use borrow.Author.Needs.{needs}
 use Rattle.executing.proofs.RunLaws.{
-  Left,
+  LoopAt,
   root-placed,
   left-start,
   stopped-answer,
@@ -24,7 +24,7 @@ use Rattle.executing.proofs.execute.Tie as tie
 
 abbrev Inv-loop : tie.InvT-loop
 Inv-loop words offsets plan tree values₀ budget starts stack₀ marks₀ places₀ depth₀ n₀ r₀ at₀ left₀ values stack marks places depth n r at left =
-    Left words plan tree starts values₀ stack marks places depth n r at values left budget
+    LoopAt words plan tree starts values₀ stack marks places depth n r at values left budget
 
 abbrev μ-loop : tie.MeasureT-loop
 μ-loop words offsets plan tree values₀ budget starts stack₀ marks₀ places₀ depth₀ n₀ r₀ at₀ left₀ values stack marks places depth n r at left =

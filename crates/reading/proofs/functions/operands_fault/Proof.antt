@@ -1,7 +1,7 @@
 -- `reading::functions::operands_fault` meets its contract: the arguments are read once the operation is one. Assumes nothing.
 use borrow.Author.Needs.{needs}
 use Rattle.access.proofs.Laws.{stops, passes, ranged-of, leb-of}
-use Rattle.reading.specs.Steps.{operandsFault}
+use Rattle.reading.specs.Parts.{operandsFault}
 use Rattle.reading.proofs.functions.operands_fault.Statement.{statement}
 use Rattle.reading.proofs.functions.operands_fault.Tie as tie
 

@@ -1,7 +1,7 @@
 -- `reading::functions::target_fault` meets its contract: 4 is tested before 5, as the definition has it. Assumes nothing.
 use borrow.Author.Needs.{needs}
 use Rattle.access.proofs.Laws.{stops, passes, unless-of}
-use Rattle.reading.specs.Steps.{targetFault}
+use Rattle.reading.specs.Parts.{targetFault}
 use Rattle.reading.proofs.functions.target_fault.Statement.{statement}
 use Rattle.reading.proofs.functions.target_fault.Tie as tie
 

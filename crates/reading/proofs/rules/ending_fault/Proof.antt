@@ -1,7 +1,7 @@
 -- `reading::rules::ending_fault` meets its contract: the last rule is tested before what follows it. Assumes nothing.
 use borrow.Author.Needs.{needs}
 use Rattle.access.proofs.Laws.{stops, passes}
-use Rattle.reading.specs.Steps.{endingFault}
+use Rattle.reading.specs.Parts.{endingFault}
 use Rattle.reading.proofs.rules.ending_fault.Statement.{statement}
 use Rattle.reading.proofs.rules.ending_fault.Tie as tie
 

@@ -2,7 +2,7 @@
 -- number is a word. Assumes nothing.
 use borrow.Author.Needs.{needs}
 use Rattle.access.proofs.Laws.{stops, passes, ranged-of, mask-of, unless-of}
-use Rattle.reading.specs.Steps.{maskFault}
+use Rattle.reading.specs.Parts.{maskFault}
 use Rattle.reading.proofs.symbols.mask_fault.Statement.{statement}
 use Rattle.reading.proofs.symbols.mask_fault.Tie as tie
 

@@ -1,7 +1,7 @@
 -- `reading::symbols::opening_fault` meets its contract: header, symbols and start symbol are tested in the definition's order. Assumes nothing.
 use borrow.Author.Needs.{needs}
 use Rattle.access.proofs.Laws.{stops, passes, each-of}
-use Rattle.reading.specs.Steps.{openingFault}
+use Rattle.reading.specs.Parts.{openingFault}
 use Rattle.reading.proofs.symbols.opening_fault.Statement.{statement}
 use Rattle.reading.proofs.symbols.opening_fault.Tie as tie
 
