@@ -1,7 +1,7 @@
 -- The stale rules: at first every rule is, a rule that is taken up no longer is unless it touches itself, and whoever is touched is again. A rule
 -- is touched only where an arc is new, so either there are fewer arcs left to find, or as many and fewer stale rules. Assumes nothing.
 use Prim.Native.Nat.{ℕ, _+_, _*_, _-_, _/_, _%_, _^_, _≤_, _<_}
-use mathlib.Core.Path.{_≡_, _∙_, ap, subst, subst⁻¹}
+use mathlib.Core.Path.{_≡_, sym, _∙_, ap, subst, subst⁻¹}
 use mathlib.Core.Logic.{⊎-elim}
 use mathlib.Core.Bool.{Bool, not}
 use mathlib.Core.List.{List}
@@ -26,7 +26,7 @@ use Rattle.grammar.proofs.AcceptedTable.{accepted}
 use Rattle.access.specs.Offsets.{offsetsFor, RuleOf}
 use Rattle.closing.proofs.ConnectLaws.{some-member}
 use Rattle.inducing.specs.Rules.{Induced, Arcs}
-use Rattle.inducing.specs.Stale.{NewArc, Fresh, Naming, Refreshed, Stale, Chosen}
+use Rattle.inducing.specs.Stale.{NewArc, Fresh, Naming, Refreshed, Stale, Chosen, Upward, fromThere, fromBelow}
 use Rattle.inducing.proofs.ClearLaws.{zero-words}
 use Rattle.inducing.proofs.HoldsLaws.{frame-none, frame-then}
 use Rattle.inducing.proofs.ExactLaws.{arc-small, arc-symbol}
@@ -39,6 +39,14 @@ chosen-ahead stale limit ahead r e f =
       member =
           eqb→eq _ _ (minus-both r stale limit (subst (λ (n : ℕ). T (hasb r n)) e (true-T _ (bit-has r ahead (f .member)))) .0);
     }
+
+-- the rules are gone through upward
+pub upward-ahead : (stale from limit part r : ℕ) → limit ≡ below from → part ≡ minus stale limit → First part r → Upward stale from r
+upward-ahead stale from limit part r l e f =
+    fromThere (subst (λ (s : ℕ). First s r) (e ∙ ap (minus stale) l) f)
+
+pub upward-again : (stale from limit part r : ℕ) → limit ≡ below from → part ≡ minus stale limit → part ≡ 0 → First stale r → Upward stale from r
+upward-again stale from limit part r l e z f = fromBelow (sym (e ∙ ap (minus stale) l) ∙ z) f
 
 pub still-stale : (stale r touched rest next : ℕ) → rest ≡ remove r stale → next ≡ union rest touched → next ≡ union (remove r stale) touched
 still-stale stale r touched rest next e m = m ∙ ap (λ (s : ℕ). union s touched) e

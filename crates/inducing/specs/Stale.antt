@@ -8,7 +8,7 @@ use mathlib.Core.Bool.{not}
 use mathlib.Core.List.{List}
 use lib.Dec.{T}
 use lib.ListN.{length}
-use Rattle.bits.specs.Bit.{bit, hasb}
+use Rattle.bits.specs.Bit.{bit, hasb, below, minus, First}
 use Rattle.basics.specs.Lists.{word}
 use Rattle.grammar.specs.Table.{rules, attributes, rightLength, symbolOf}
 use Rattle.access.specs.ByPlace.{symbolFrom}
@@ -88,3 +88,8 @@ pub record Stale (g entry : List ℕ) (stale : ℕ) (rows ids : List ℕ) : Type
 pub record Chosen (stale r : ℕ) : Type 0 where
   pub small : r < 64
   pub member : bit r stale ≡ 1
+
+-- which one: the lowest from a number on, else the lowest of all
+pub data Upward (stale from r : ℕ) : Type 0 where
+  fromThere : First (minus stale (below from)) r → Upward stale from r
+  fromBelow : minus stale (below from) ≡ 0 → First stale r → Upward stale from r

@@ -121,6 +121,7 @@ fn refresh(
 fn choose(stale: u64, from: usize) -> usize
     requires { ⌜ (0 < stale) × (from ≤ 64) ⌝ }
     ensures { λ r. ⌜ state.Chosen stale r ⌝ }
+    ensures { λ r. ⌜ state.Upward stale from r ⌝ }
 {
     let ahead = bits::minus(stale, bits::below(from));
     if ahead == 0 {

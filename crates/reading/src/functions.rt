@@ -197,6 +197,7 @@ pub struct Rule {
 // A refused rule hands on nothing.
 pub fn stopped(verdict: Verdict) -> Rule
     ensures { λ r. ⌜ r .verdict ≡ verdict ⌝ }
+    ensures { λ r. ⌜ (r .next ≡ 0) × (r .undefined ≡ 0) ⌝ }
 {
     Rule {
         verdict,

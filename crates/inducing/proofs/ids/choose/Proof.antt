@@ -1,6 +1,6 @@
--- Each answer is the lowest member of the stale rules, or of those of them from a number on. So it is stale.
+-- Each answer is the lowest of the stale rules from a number on, or where there is none the lowest of all. So it is stale. Assumes nothing.
 use borrow.Author.Needs.{needs}
-use Rattle.inducing.proofs.StaleLaws.{chosen-ahead}
+use Rattle.inducing.proofs.StaleLaws.{chosen-ahead, upward-ahead, upward-again}
 use Rattle.inducing.proofs.ids.choose.Statement.{statement}
 use Rattle.inducing.proofs.ids.choose.Tie as tie
 
@@ -14,13 +14,13 @@ first-requires : tie.Need-first-requires
 first-requires c κs = search needs
 
 returns : tie.Need-returns
-returns c = search needs
+returns c = (search needs, search upward-again)
 
 first-requires-2 : tie.Need-first-requires-2
 first-requires-2 c κs = search needs
 
 returns-2 : tie.Need-returns-2
-returns-2 c = search chosen-ahead
+returns-2 c = (search chosen-ahead, search upward-ahead)
 
 pub choose-spec : {M : Type 1} → statement M
 choose-spec =
