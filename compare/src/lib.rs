@@ -30,6 +30,9 @@ impl Refusal {
     }
 }
 
+/// The numbers that refusals have.
+pub const NUMBERS: [u32; 17] = [1, 2, 3, 4, 5, 6, 7, 8, 9, 10, 12, 13, 14, 15, 16, 17, 18];
+
 /// How a run ended.
 #[derive(Debug, Clone, Copy, PartialEq, Eq)]
 pub enum Ran {

@@ -35,13 +35,11 @@ pub fn planned(words: &[u16], rows: &mut [u64], plan: &mut [u16]) -> Result<Gram
     if let Some((rule, occurrence)) = cycle {
         return Err(Refusal { number: 10, place: rule, second: occurrence });
     }
-    // A grammar without such a cycle always has an action ready, so the sequences are written where they belong at once: 11 never comes.
+    // A grammar without such a cycle always has an action ready, so the sequences are written where they belong at once.
     let (sets, sequences) = plan.split_at_mut(256);
     let mut sequencer = Sequencer::new();
     for (r, (rule, out)) in g.rules.iter().zip(sequences.as_chunks_mut().0).enumerate() {
-        if !sequencer.sequence(rule, &g.arguments[r], &orders, out) {
-            return Err(Refusal::at(11, r));
-        }
+        sequencer.sequence(rule, &g.arguments[r], &orders, out);
     }
     let (used, unused) = sets.split_at_mut(8 * g.count);
     for (sets, order) in used.as_chunks_mut().0.iter_mut().zip(&orders) {

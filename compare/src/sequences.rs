@@ -43,9 +43,9 @@ impl Sequencer {
         bits(std::mem::take(&mut self.waiting[o])).fold(0, |ready, woken| ready | self.look(woken, available))
     }
 
-    /// Writes a rule's sequence; false where it gets stuck. Not inlined, so that its sets stay in registers.
+    /// Writes a rule's sequence. Not inlined, so that its sets stay in registers.
     #[inline(never)]
-    pub fn sequence(&mut self, rule: &Rule, arguments: &Before, orders: &[Order; 32], out: &mut Sequence) -> bool {
+    pub fn sequence(&mut self, rule: &Rule, arguments: &Before, orders: &[Order; 32], out: &mut Sequence) {
         let left = &orders[rule.symbols[0] as usize];
         // The visits left, as 8i + (r - 1); and the inherited attributes of each child's next one.
         let (mut visits, mut wanted) = (0u64, 0u64);
@@ -86,15 +86,13 @@ impl Sequencer {
             } else {
                 let last = leave + 1 == left.visits;
                 let follows = if last { rule.defining } else { left.synthesized >> (8 * leave) & 0xff };
-                if follows & !available != 0 || last && visits != 0 {
-                    return false;
-                }
+                assert!(follows & !available == 0 && !(last && visits != 0), "an action is ready until the sequence is complete");
                 out[length] = 128 + leave as u16;
                 leave += 1;
                 if last {
                     out[0] = length as u16;
                     out[length + 1..].fill(0);
-                    return true;
+                    return;
                 }
                 left.inherited >> (8 * leave) & 0xff
             };

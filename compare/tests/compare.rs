@@ -5,7 +5,7 @@ use independent::cases::{
 };
 use independent::plan::visits;
 use independent::shrink::shrink;
-use independent::{plan, proved, run, Ran, Refusal};
+use independent::{plan, proved, run, Ran, Refusal, NUMBERS};
 use std::fmt::Write;
 use std::time::Instant;
 
@@ -14,8 +14,6 @@ const RANDOM: u64 = 400_000;
 const VARIED: u64 = 24;
 /// A refusal that is hit less often than this is not tested.
 const LEAST: u64 = 50;
-/// It never applies: an ordered grammar always has an action ready.
-const NEVER: usize = 11;
 
 /// Words before and after a lent buffer, which nobody may touch.
 const GUARD: usize = 8;
@@ -243,13 +241,13 @@ fn proved_and_independent_agree() {
     println!("symbols with 0 to 8 attributes there: {:?}", seen.attributes);
     println!("nonterminals with 1 to 5 visits there: {:?}", &seen.visits[1..]);
     println!("of 64 rules: {}, not reduced: {}", seen.full, seen.unreduced);
-    for (number, hits) in seen.refused.iter().enumerate().skip(1) {
-        println!("refusal {number}: {hits}");
-    }
     assert!(seen.cases >= 200_000);
-    for (number, &hits) in seen.refused.iter().enumerate().skip(1) {
-        assert!(if number == NEVER { hits == 0 } else { hits >= LEAST }, "refusal {number} was hit {hits} times");
+    for number in NUMBERS {
+        let hits = std::mem::take(&mut seen.refused[number as usize]);
+        println!("refusal {number}: {hits}");
+        assert!(hits >= LEAST, "refusal {number} was hit {hits} times");
     }
+    assert_eq!(seen.refused.iter().sum::<u64>(), 0, "a refusal of no known number was answered");
     let kinds = seen.lengths.iter().chain(&seen.attributes).chain(&seen.visits[1..]).chain([&seen.full, &seen.unreduced, &seen.done, &seen.stopped]);
     assert!(kinds.into_iter().all(|&n| n >= LEAST), "some kind of table or run was hardly reached");
 }

@@ -19,7 +19,6 @@ use Rattle.refusals.specs.declared.Refusal.the-variants.{
   TooShort,
   CircularIdp,
   CircularEdp,
-  Stuck,
   TreeSize,
   NoSuchRule,
   BadChild,
@@ -56,7 +55,7 @@ rebuilt : ℕ → ℕ → ℕ → Refusal
 rebuilt k p o =
     getD
     (TreeSize ∷ EndsEarly p ∷ OutOfRange p ∷ WrongClass p ∷ NoOccurrence p ∷ NotDefining p ∷ Undefined p ∷ LeftOver p ∷ TooShort p
-    ∷ CircularIdp p o ∷ CircularEdp p o ∷ Stuck p ∷ TreeSize ∷ NoSuchRule p ∷ BadChild p ∷ RootNotStart ∷ ChildDiffers p
+    ∷ CircularIdp p o ∷ CircularEdp p o ∷ TreeSize ∷ TreeSize ∷ NoSuchRule p ∷ BadChild p ∷ RootNotStart ∷ ChildDiffers p
     ∷ NotOneParent p ∷ ValuesTooShort ∷ []) k TreeSize
 
 rebuilds : (n : Refusal) → rebuilt (numberOf n) (placeOf n) (secondOf n) ≡ n
@@ -71,7 +70,6 @@ rebuilds (LeftOver p) = refl
 rebuilds (TooShort p) = refl
 rebuilds (CircularIdp r o) = refl
 rebuilds (CircularEdp r o) = refl
-rebuilds (Stuck r) = refl
 rebuilds TreeSize = refl
 rebuilds (NoSuchRule n) = refl
 rebuilds (BadChild n) = refl

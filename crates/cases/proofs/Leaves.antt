@@ -1,4 +1,4 @@
--- How far planning came where a refusal answers: 1 to 8 before it wrote anything, 9 with IDP, 10 and 11 with EDP, 12 to 18 after it was
+-- How far planning came where a refusal answers: 1 to 8 before it wrote anything, 9 with IDP, 10 with EDP, 12 to 18 after it was
 -- done, and then the values stay. Assumes nothing.
 use Prim.Native.Nat.{ℕ, _≤_, _<_}
 use mathlib.Core.Path.{_≡_, refl, _∙_}
@@ -18,7 +18,7 @@ use Rattle.runs.specs.declared.Ran as R
 use Rattle.runs.specs.Automaton.{started}
 use Rattle.runs.specs.Run.{ran, runAnswer, valuesAfter}
 use Rattle.runner.specs.Whole.{came, leftPlan, answer, values}
-use Rattle.cases.specs.First.{roomWalk, idpWalk, readyWalk, walk, earlierWalk}
+use Rattle.cases.specs.First.{roomWalk, idpWalk, edpWalk, walk, earlierWalk}
 use Rattle.cases.specs.AllCases.{inPlan, PlanRefuses, Refuses}
 use Rattle.cases.proofs.PlanTests.{plan-walk}
 use Rattle.cases.proofs.PlanOutcomes.{refusedWith, plan-outcome, plan-done}
@@ -58,13 +58,13 @@ module _ (g rows plan : List ℕ) where
     pub nine-came : walk g n ≡ idpWalk → reached ≡ circularIdp n
     nine-came h = came-to ∙ ninth g n h
 
-    -- 10 and 11
+    -- 10
     pub ten-came : idpWalk < walk g n → reached ≡ unordered n
     ten-came h = came-to ∙ after-nine g n h
 
   module _ (t : List ℕ) (vs : List ℤ) (budget : ℕ) (n : Refusal) (refuses : Refuses g (length rows) (length plan) t (length vs) n) where
     -- 12 to 18 come after planning
-    pub tree-late : readyWalk < walk g n → reached ≡ accepted
+    pub tree-late : edpWalk < walk g n → reached ≡ accepted
     tree-late h =
         plan-done g (length rows) (length plan) .1
         (λ m c. refuses .noEarlier m (inPlan c) (earlierWalk (omega (arith, plan-walk g (length rows) (length plan) m c))))

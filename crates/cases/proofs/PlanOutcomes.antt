@@ -1,5 +1,5 @@
--- How far planning comes, by the walk of the case that answers: "1 to 8 change nothing. 9 leaves IDP paths in the rows; 10 and 11 leave EDP
--- paths". An outcome that refuses with n is the one of n's walk. Assumes nothing.
+-- How far planning comes, by the walk of the case that answers: "1 to 8 change nothing. 9 leaves IDP paths in the rows", 10 EDP paths.
+-- An outcome that refuses with n is the one of n's walk. Assumes nothing.
 use Prim.Native.Nat.{ℕ, _≤_}
 use mathlib.Core.Path.{_≡_, refl, sym, _∙_, ap, subst}
 use mathlib.Core.Logic.{_↔_}
@@ -7,10 +7,9 @@ use mathlib.Core.Bool.{Bool, true, false, cond}
 use mathlib.Core.List.{List}
 use native.Mathlib.Omega.{arith}
 use lib.Dec.{leb, le→leb}
-use Rattle.basics.specs.Tests.{some}
 use Rattle.basics.proofs.TestLaws.{chosen}
 use Rattle.refusals.specs.declared.Refusal.{Refusal}
-use Rattle.refusals.specs.declared.Refusal.the-variants.{TooShort, Stuck}
+use Rattle.refusals.specs.declared.Refusal.the-variants.{TooShort}
 use Rattle.grammar.specs.declared.Verdict.{Verdict}
 use Rattle.grammar.specs.declared.Verdict.the-variants.{Good, Refused}
 use Rattle.grammar.specs.Limits.{rowWords, planWords}
@@ -26,10 +25,8 @@ use Rattle.plans.specs.Answer.{
   unordered,
   accepted as accepts,
   room,
-  stuckIn,
   idpPaths,
   edpPaths,
-  afterEdp,
   afterIdp,
   afterRoom,
   afterReading,
@@ -45,7 +42,7 @@ use Rattle.cases.proofs.TableTests.{table-verdict}
 use Rattle.cases.proofs.PlanningFirst.{verdictOf}
 use Rattle.cases.proofs.PlanTests.{plan-verdict}
 
--- how far planning came where it refuses: "1 to 8 change nothing. 9 leaves IDP paths in the rows; 10 and 11 leave EDP paths"
+-- how far planning came where it refuses: "1 to 8 change nothing. 9 leaves IDP paths in the rows", 10 EDP paths
 abbrev pub refusedWith : List ℕ → Refusal → Outcome
 refusedWith g n = cond (leb (walk g n) roomWalk) (untouched n) (cond (leb (walk g n) idpWalk) (circularIdp n) (unordered n))
 
@@ -67,11 +64,10 @@ module _ (g : List ℕ) (rowsLength planLength : ℕ) where
   settled-accepted n i = absurd (good-not-refused n i)
 
   settled-cycles : Settled (afterRoom g (idsOf g))
-  unfolding afterRoom afterIdp afterEdp verdictOf
+  unfolding afterRoom afterIdp verdictOf
   settled-cycles =
       settled-cond (circular g (idpPaths g (idsOf g))) _ _ (settled-refused _ (idpCycle g) refl refl)
-      (settled-cond (circular g (edpPaths g (idsOf g) (setsFor g))) _ _ (settled-refused _ (edpCycle g) refl refl)
-      (settled-cond (some (rules g) (λ r. stuckIn g (idsOf g) (setsFor g) r)) _ _ (settled-refused _ (Stuck _) refl refl) settled-accepted))
+      (settled-cond (circular g (edpPaths g (idsOf g) (setsFor g))) _ _ (settled-refused _ (edpCycle g) refl refl) settled-accepted)
 
   settled-early : (v : Verdict) → ((n : Refusal) → v ≡ Refused n → walk g n ≤ roomWalk) → Settled (afterReading g v)
   unfolding afterReading verdictOf

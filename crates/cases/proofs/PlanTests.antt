@@ -1,24 +1,18 @@
--- Planning refuses with n exactly if n is the first of the cases 1 to 11 that applies, and answers a plan exactly if none applies: the reader's
--- cases come first, then those of planning. 11 is never the first. Assumes nothing.
+-- Planning refuses with n exactly if n is the first of the cases 1 to 10 that applies, and answers a plan exactly if none applies: the reader's
+-- cases come first, then those of planning. Assumes nothing.
 use Prim.Native.Nat.{ℕ, _≤_}
 use mathlib.Core.Path.{_≡_, refl, sym, _∙_, ap, subst⁻¹}
 use mathlib.Core.Logic.{_⊎_, inl, inr, _↔_, Iff·trans}
 use mathlib.Core.List.{List}
 use native.Mathlib.Omega.{arith}
-use lib.Dec.{T}
 use Rattle.refusals.specs.declared.Refusal.{Refusal}
-use Rattle.refusals.specs.declared.Refusal.the-variants.{CircularEdp, Stuck}
-use Rattle.refusals.specs.Numbers.{numberOf}
 use Rattle.grammar.specs.declared.Verdict.{Verdict}
 use Rattle.grammar.specs.declared.Verdict.the-variants.{Good, Refused}
 use Rattle.grammar.specs.Limits.{planWords}
-use Rattle.grammar.specs.Table.{rules, ruleCounts}
+use Rattle.grammar.specs.Table.{rules}
 use Rattle.grammar.specs.Reading.{readTable}
 use Rattle.grammar.specs.Verdicts.{_then_}
 use Rattle.relations.specs.Computed.{idsOf}
-use Rattle.order.specs.Paper.{PaperSets, IsOrdered}
-use Rattle.sequences.specs.Paper.{LeftOut}
-use Rattle.sequences.proofs.PaperSequence.{none-left-out}
 use Rattle.plans.specs.declared.Planned as P
 use Rattle.plans.specs.Answer.{
   Outcome,
@@ -33,13 +27,12 @@ use Rattle.plans.specs.Answer.{
   answerOf,
 }
 use Rattle.plans.proofs.Left.{accepted-answer}
-use Rattle.cases.specs.First.{readyWalk, walk, earlierWalk, GoesBy}
+use Rattle.cases.specs.First.{edpWalk, walk, GoesBy}
 use Rattle.cases.specs.PlanningCases.{PlanningCase, PlanCase, inTable, inPlanning}
-use Rattle.cases.specs.PlanningCases as case
 use Rattle.cases.specs.TableCases.{TableCase}
 use Rattle.cases.specs.AllCases.{PlanRefuses}
 use Rattle.cases.proofs.FirstLaws.{good-not-refused, by-finding, goes-then}
-use Rattle.cases.proofs.TableOrder.{table-number, table-walk}
+use Rattle.cases.proofs.TableOrder.{table-walk}
 use Rattle.cases.proofs.TableTests.{table-verdict}
 use Rattle.cases.proofs.PlanningFirst.{verdictOf, planning-walk, found-planning}
 
@@ -56,11 +49,11 @@ module _ (g : List ℕ) (rowsLength planLength : ℕ) where
   either n (inTable c) = inl c
   either n (inPlanning c) = inr c
 
-  pub plan-walk : (n : Refusal) → PlanCase g rowsLength planLength n → walk g n ≤ readyWalk
+  pub plan-walk : (n : Refusal) → PlanCase g rowsLength planLength n → walk g n ≤ edpWalk
   plan-walk n (inTable c) = omega (arith, table-walk g n c)
   plan-walk n (inPlanning c) = planning-walk g rowsLength planLength n c .1
 
-  -- The verdict of planning: good exactly if no case of 1 to 11 applies, and refusal n exactly if n is the first that applies.
+  -- The verdict of planning: good exactly if no case of 1 to 10 applies, and refusal n exactly if n is the first that applies.
   pub plan-verdict : GoesBy g (PlanCase g rowsLength planLength) (verdictOf (outcome g rowsLength planLength))
   unfolding outcome
   plan-verdict =
@@ -89,7 +82,7 @@ module _ (g : List ℕ) (rowsLength planLength : ℕ) where
       (λ e. absurd (let z : _≡_ {A = ℕ} 0 1 = cc in omega arith), λ e. absurd (good-not-refused m (sym (e .1))))
   answer-accepted accepts k = (λ e. (cc, refl), λ e. accepted-answer g ∙ ap P.the-variants.Accepted (sym (e .0)))
 
-  -- planning answers refusal n exactly if n is the first of the cases 1 to 11 that applies
+  -- planning answers refusal n exactly if n is the first of the cases 1 to 10 that applies
   pub plan-refused : (n : Refusal)
       → (answerOf g (outcome g rowsLength planLength) ≡ P.the-variants.Refused n) ↔ PlanRefuses g rowsLength planLength n
   plan-refused n = Iff·trans (answer-refused (outcome g rowsLength planLength) n) (plan-verdict .refused n)
@@ -101,26 +94,3 @@ module _ (g : List ℕ) (rowsLength planLength : ℕ) where
     λ e. let w = answer-accepted (outcome g rowsLength planLength) k .0 e in (w .0, plan-verdict .good .0 (w .1)),
     λ w. answer-accepted (outcome g rowsLength planLength) k .1 (w .0, plan-verdict .good .1 (w .1)),
   )
-
-  -- 11 never answers
-  remaining : (n : Refusal) → PlanCase g rowsLength planLength n → numberOf n ≡ 11
-      → (set : ℕ → ℕ → ℕ) × PaperSets g set × ((r : ℕ) × T (ruleCounts g r) × LeftOut g set r)
-  remaining n (inTable c) e = absurd (omega (arith, table-number g n c .0))
-  remaining n (inPlanning (case.rowsTooShort h)) e = absurd (omega arith)
-  remaining n (inPlanning (case.planTooShort h)) e = absurd (omega arith)
-  remaining n (inPlanning (case.idpCycle r o h p)) e = absurd (omega arith)
-  remaining n (inPlanning (case.edpCycle set v r o h p)) e = absurd (omega arith)
-  remaining n (inPlanning (case.noneReady set v r h p)) e = (set, v, (r, h, p))
-
-  pub eleven-never : (r : ℕ) → ¬ PlanRefuses g rowsLength planLength (Stuck r)
-  eleven-never r f =
-      let w = remaining (Stuck r) (f .applies) refl in
-      let good : readTable g ≡ Good =
-      table-verdict g .good .1 (λ n c. f .noEarlier n (inTable c) (earlierWalk (omega (arith, table-walk g n c)))) in
-      let ordered : IsOrdered g =
-      record {
-        set = w .0;
-        areSets = w .1;
-        noCycle = λ q o c p. f .noEarlier (CircularEdp q o) (inPlanning (case.edpCycle (w .0) (w .1) q o c p)) (earlierWalk (omega arith));
-      } in
-      none-left-out g good ordered (w .0) (w .1) (w .2 .0) (w .2 .1) (w .2 .2)

@@ -1,14 +1,13 @@
--- Which case of 8 to 11 is the first, once the table is read: room is tested before the cycles, of the cycles the search names the lowest, and
--- an ordered grammar always has an action ready. Assumes nothing.
+-- Which case of 8 to 10 is the first, once the table is read: room is tested before the cycles, and of the cycles the search names the
+-- lowest. Assumes nothing.
 use Prim.Native.Nat.{ℕ, _≤_, _<_}
 use mathlib.Core.Path.{_≡_, refl, _∙_, ap, subst}
 use mathlib.Core.Logic.{_⊎_, inl, inr, ⊎-elim}
 use mathlib.Core.Bool.{Bool, true, false}
 use mathlib.Core.List.{List}
 use native.Mathlib.Omega.{arith}
-use lib.Dec.{T, leb, leb→le, nleb→lt, not-T}
-use Rattle.basics.specs.Tests.{some}
-use Rattle.basics.proofs.TestLaws.{tested, chosen, passed-over, true-T, false-T, T-false, some-find}
+use lib.Dec.{T, leb, leb→le, nleb→lt}
+use Rattle.basics.proofs.TestLaws.{tested, chosen, passed-over, true-T, false-T, T-false}
 use Rattle.refusals.specs.declared.Refusal.{Refusal}
 use Rattle.refusals.specs.declared.Refusal.the-variants.{TooShort, CircularIdp, CircularEdp}
 use Rattle.grammar.specs.declared.Verdict.{Verdict}
@@ -30,7 +29,6 @@ use Rattle.order.specs.Computed.{circular}
 use Rattle.order.proofs.ExactEdp.{edp-path-exact, edp-from}
 use Rattle.order.proofs.CycleSearch.{cycle-found}
 use Rattle.order.proofs.WholeGrammar.{computedSets, sets-exist, edp-paths-same}
-use Rattle.sequences.proofs.PaperSequence.{none-left-out}
 use Rattle.plans.specs.Answer.{
   Outcome,
   untouched,
@@ -38,16 +36,14 @@ use Rattle.plans.specs.Answer.{
   unordered,
   accepted as accepts,
   room,
-  stuckIn,
   idpPaths,
   edpPaths,
-  afterEdp,
   afterIdp,
   afterRoom,
 }
 use Rattle.plans.proofs.Answers.{setsFor, idpRule, idpOccurrence, idpCycle, edpRule, edpOccurrence, edpCycle, no-idp-cycle, no-edp-cycle}
-use Rattle.plans.proofs.Ordered.{CycleFree, never-stuck, free-ordered}
-use Rattle.cases.specs.First.{roomWalk, readyWalk, walk, Earlier, earlierWalk, earlierPlace, lowerOccurrence, lowerNumber, FirstCase}
+use Rattle.plans.proofs.Ordered.{CycleFree}
+use Rattle.cases.specs.First.{roomWalk, edpWalk, walk, Earlier, earlierWalk, earlierPlace, lowerOccurrence, lowerNumber, FirstCase}
 use Rattle.cases.specs.PlanningCases.{PlanningCase}
 use Rattle.cases.specs.PlanningCases as case
 use Rattle.cases.proofs.FirstLaws.{later-walk, Found, nothing, fault}
@@ -63,12 +59,11 @@ module _ (g : List ℕ) (rowsLength planLength : ℕ) where
   abbrev C : Refusal → Type 1
   C = PlanningCase g rowsLength planLength
 
-  pub planning-walk : (n : Refusal) → C n → (roomWalk ≤ walk g n) × (walk g n ≤ readyWalk)
+  pub planning-walk : (n : Refusal) → C n → (roomWalk ≤ walk g n) × (walk g n ≤ edpWalk)
   planning-walk n (case.rowsTooShort h) = omega arith
   planning-walk n (case.planTooShort h) = omega arith
   planning-walk n (case.idpCycle r o h p) = omega arith
   planning-walk n (case.edpCycle set v r o h p) = omega arith
-  planning-walk n (case.noneReady set v r h p) = omega arith
 
   -- 8
   room-order : (a b : ℕ) → b ≤ a → Earlier g (TooShort a) (TooShort b) → ⊥
@@ -85,7 +80,6 @@ module _ (g : List ℕ) (rowsLength planLength : ℕ) where
       none m (case.planTooShort l) e = room-order 1 0 (omega arith) e
       none m (case.idpCycle r o l p) e = later-walk g m (TooShort 0) (omega arith) e
       none m (case.edpCycle set v r o l p) e = later-walk g m (TooShort 0) (omega arith) e
-      none m (case.noneReady set v r l p) e = later-walk g m (TooShort 0) (omega arith) e
 
   first-plan : rowWords (rules g) ≤ rowsLength → planLength < planWords (rules g) → FirstCase g C (TooShort 1)
   first-plan a h = record { applies = case.planTooShort h; noEarlier = none }
@@ -95,7 +89,6 @@ module _ (g : List ℕ) (rowsLength planLength : ℕ) where
       none m (case.planTooShort l) e = room-order 1 1 (omega arith) e
       none m (case.idpCycle r o l p) e = later-walk g m (TooShort 1) (omega arith) e
       none m (case.edpCycle set v r o l p) e = later-walk g m (TooShort 1) (omega arith) e
-      none m (case.noneReady set v r l p) e = later-walk g m (TooShort 1) (omega arith) e
 
   -- of the cycles the lowest rule and in it the lowest occurrence is the first
   idp-order : (q p r o : ℕ) → Earlier g (CircularIdp q p) (CircularIdp r o) → (q < r) ⊎ ((q ≡ r) × (p < o))
@@ -125,7 +118,6 @@ module _ (g : List ℕ) (rowsLength planLength : ℕ) where
         none m (case.planTooShort l) e = omega arith
         none m (case.idpCycle q p l i) e = none-lower (λ r o. IDP⁺ g r o o) r o w q p l i (idp-order q p r o e)
         none m (case.edpCycle set v q p l i) e = later-walk g m (CircularIdp r o) (omega arith) e
-        none m (case.noneReady set v q l i) e = later-walk g m (CircularIdp r o) (omega arith) e
 
     -- 10
     first-edp : (CircularIDP g → ⊥) → (r o : ℕ) → LowestCycle g (λ r o. OnCycle (EDP g (setNumber (setsFor g)) r) o) r o → FirstCase g C (CircularEdp r o)
@@ -137,7 +129,6 @@ module _ (g : List ℕ) (rowsLength planLength : ℕ) where
         none m (case.idpCycle q p l i) e = free (q, l, (p, i))
         none m (case.edpCycle set v q p l i) e =
             none-lower (λ r o. OnCycle (EDP g (setNumber (setsFor g)) r) o) r o w q p l (edp-paths-same g good free set v q p p .1 i) (edp-order q p r o e)
-        none m (case.noneReady set v q l i) e = later-walk g m (CircularEdp r o) (omega arith) e
 
     no-case : CycleFree g → (n : Refusal) → ¬ C n
     no-case ordered n (case.rowsTooShort l) = omega arith
@@ -145,7 +136,6 @@ module _ (g : List ℕ) (rowsLength planLength : ℕ) where
     no-case ordered n (case.idpCycle r o l i) = ordered .noIdpCycle (r, l, (o, i))
     no-case ordered n (case.edpCycle set v r o l i) =
         ordered .noEdpCycle r o l (edp-paths-same g good (ordered .noIdpCycle) set v r o o .1 i)
-    no-case ordered n (case.noneReady set v r l i) = none-left-out g good (free-ordered g good ordered) set v r l i
 
     -- the search's cycles are the paper's
     idp-lowest : T (circular g (idpPaths g (idsOf g))) → LowestCycle g (λ r o. IDP⁺ g r o o) (idpRule g) (idpOccurrence g)
@@ -165,13 +155,6 @@ module _ (g : List ℕ) (rowsLength planLength : ℕ) where
         occurs-below g (accepted g good) r o c (edp-from g good (setsFor g) r c o (e .0) (e .1))) t
 
     -- what is found once there is room
-    after-edp : CycleFree g → afterEdp g (idsOf g) (setsFor g) ≡ accepts
-    unfolding afterEdp
-    after-edp ordered =
-        passed-over (some (rules g) (λ r. stuckIn g (idsOf g) (setsFor g) r)) _ accepts
-        (not-T (some (rules g) (λ r. stuckIn g (idsOf g) (setsFor g) r))
-        (λ t. let w = some-find (rules g) (λ r. stuckIn g (idsOf g) (setsFor g) r) t in never-stuck g good ordered (w .0) (w .2)))
-
     found-cycles : Found g C (verdictOf (afterRoom g (idsOf g)))
     unfolding verdictOf afterRoom afterIdp
     found-cycles =
@@ -189,20 +172,18 @@ module _ (g : List ℕ) (rowsLength planLength : ℕ) where
         fault (edpCycle g)
         (ap verdictOf
         (past
-        ∙ chosen (circular g (edpPaths g (idsOf g) (setsFor g))) (unordered (edpCycle g)) (afterEdp g (idsOf g) (setsFor g)) u))
+        ∙ chosen (circular g (edpPaths g (idsOf g) (setsFor g))) (unordered (edpCycle g)) accepts u))
         (first-edp free (edpRule g) (edpOccurrence g) (edp-lowest u)))
         (λ u.
         let ordered : CycleFree g = record { noIdpCycle = free; noEdpCycle = no-edp-cycle g good (T-false _ u) } in
         nothing
         (ap verdictOf
-        (past
-        ∙ (passed-over (circular g (edpPaths g (idsOf g) (setsFor g))) (unordered (edpCycle g)) (afterEdp g (idsOf g) (setsFor g)) u
-        ∙ after-edp ordered)))
+        (past ∙ passed-over (circular g (edpPaths g (idsOf g) (setsFor g))) (unordered (edpCycle g)) accepts u))
         (no-case ordered))
         (tested (circular g (edpPaths g (idsOf g) (setsFor g)))))
         (tested (circular g (idpPaths g (idsOf g))))
 
-  -- 8 to 11 after a table that is read
+  -- 8 to 10 after a table that is read
   pub found-planning : readTable g ≡ Good → Found g C (room g rowsLength planLength then verdictOf (afterRoom g (idsOf g)))
   unfolding room _then_ unless
   found-planning good = go (leb (rowWords (rules g)) rowsLength) refl (leb (planWords (rules g)) planLength) refl

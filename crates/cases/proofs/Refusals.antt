@@ -7,7 +7,6 @@ use mathlib.Core.List.{List}
 use lib.IntN.{ℤ}
 use lib.ListN.{length}
 use Rattle.refusals.specs.declared.Refusal.{Refusal}
-use Rattle.refusals.specs.declared.Refusal.the-variants.{Stuck}
 use Rattle.grammar.specs.declared.Verdict.the-variants.{Good, Refused}
 use Rattle.grammar.specs.Limits.{planWords}
 use Rattle.grammar.specs.Table.{rules}
@@ -47,7 +46,7 @@ pub tree-good : (g t : List ℕ) (valuesLength : ℕ) → readTable g ≡ Good
 tree-good g t valuesLength good = tree-verdict g t valuesLength (well-formed g good) .good
 
 module _ (g : List ℕ) (rowsLength planLength : ℕ) where
-  -- planning: 1 to 11, how far it comes and what it answers
+  -- planning: 1 to 10, how far it comes and what it answers
   pub outcome-refused : (n : Refusal) → (outcome g rowsLength planLength ≡ refusedWith g n) ↔ PlanRefuses g rowsLength planLength n
   outcome-refused n = outcomes.plan-outcome g rowsLength planLength n
 
@@ -61,10 +60,6 @@ module _ (g : List ℕ) (rowsLength planLength : ℕ) where
   pub planning-accepted : (k : ℕ) → (answerOf g (outcome g rowsLength planLength) ≡ P.the-variants.Accepted k)
       ↔ ((k ≡ planWords (rules g)) × ((n : Refusal) → ¬ PlanCase g rowsLength planLength n))
   planning-accepted = plan.plan-accepted g rowsLength planLength
-
-  -- 11 is never the first case
-  pub never-eleven : (r : ℕ) → ¬ PlanRefuses g rowsLength planLength (Stuck r)
-  never-eleven r = plan.eleven-never g rowsLength planLength r
 
 module _ (g rows plan t : List ℕ) (values : List ℤ) (budget : ℕ) where
   -- a whole run: 1 to 18

@@ -20,7 +20,6 @@ use Rattle.refusals.specs.declared.Refusal.the-variants.{
   TooShort,
   CircularIdp,
   CircularEdp,
-  Stuck,
   TreeSize,
   NoSuchRule,
   BadChild,
@@ -76,7 +75,6 @@ module _ (g : List ℕ) where
   turned (TooShort b) h = absurd (omega arith)
   turned (CircularIdp r o) h = absurd (omega arith)
   turned (CircularEdp r o) h = absurd (omega arith)
-  turned (Stuck r) h = absurd (omega arith)
   turned TreeSize h = absurd (omega arith)
   turned (NoSuchRule n) h = absurd (omega arith)
   turned (BadChild n) h = absurd (omega arith)

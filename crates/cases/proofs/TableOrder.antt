@@ -14,7 +14,7 @@ use Rattle.cases.proofs.TableKeys.{HasTurn, inSymbols, atStart, inRules
 
 module _ (g : List ℕ) where
   -- The cases are those of the walks over the words, and their order is that of their keys.
-  pub table-number : (n : Refusal) → TableCase g n → (numberOf n ≤ 7) × (secondOf n ≡ 0)
+  table-number : (n : Refusal) → TableCase g n → (numberOf n ≤ 7) × (secondOf n ≡ 0)
   table-number n (case.endsEarly p l h) = omega arith
   table-number n (case.symbolCount c) = omega arith
   table-number n (case.ruleCount c) = omega arith

@@ -11,7 +11,7 @@ use Rattle.basics.proofs.ListLaws.{block-inside}
 use Rattle.refusals.specs.declared.Refusal.{Refusal}
 use Rattle.refusals.specs.Numbers.{numberOf, placeOf, secondOf}
 use Rattle.trees.specs.Tree.{nodes}
-use Rattle.cases.specs.First.{walk, Earlier, earlierWalk, earlierPlace, lowerOccurrence, lowerNumber}
+use Rattle.cases.specs.First.{edpWalk, walk, Earlier, earlierWalk, earlierPlace, lowerOccurrence, lowerNumber}
 use Rattle.cases.specs.TreeCases.{TreeCase}
 use Rattle.cases.specs.TreeCases as case
 
@@ -26,11 +26,11 @@ key t n = treeWalk n * (2 * nodes t + 2) + 2 * placeOf n + (numberOf n - treeWal
 module _ (g t : List ℕ) (l : ℕ) where
   -- Where each case stands in the order.
   pub record Place (n : Refusal) : Type 0 where
-    pub late : 8 ≤ walk g n
+    pub late : edpWalk < walk g n
     pub bounds : (treeWalk n ≤ numberOf n) × (numberOf n ≤ treeWalk n + 1)
     pub node : placeOf n ≤ nodes t
     pub single : secondOf n ≡ 0
-    pub walkIs : ((walk g n ≤ 9) × (treeWalk n ≡ walk g n + 4)) ⊎ ((10 ≤ walk g n) × (treeWalk n ≡ walk g n + 5))
+    pub walkIs : ((walk g n ≤ edpWalk + 2) × (treeWalk n ≡ walk g n + 5)) ⊎ ((edpWalk + 2 < walk g n) × (treeWalk n ≡ walk g n + 6))
 
   pub tree-place : (n : Refusal) → TreeCase g t l n → Place n
   tree-place n (case.brokenNode c) =

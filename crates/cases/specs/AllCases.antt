@@ -11,7 +11,7 @@ pub data RunCase (g : List ℕ) (rowsLength planLength : ℕ) (t : List ℕ) (va
   inPlan : PlanCase g rowsLength planLength n → RunCase g rowsLength planLength t valuesLength n
   inTree : TreeCase g t valuesLength n → RunCase g rowsLength planLength t valuesLength n
 
--- planning refuses with n: n is the first of the cases 1 to 11 that applies
+-- planning refuses with n: n is the first of the cases 1 to 10 that applies
 abbrev pub PlanRefuses : List ℕ → ℕ → ℕ → Refusal → Type 1
 PlanRefuses g rowsLength planLength n = FirstCase g (PlanCase g rowsLength planLength) n
 

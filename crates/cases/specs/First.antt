@@ -18,7 +18,6 @@ use Rattle.refusals.specs.declared.Refusal.the-variants.{
   TooShort,
   CircularIdp,
   CircularEdp,
-  Stuck,
   TreeSize,
   NoSuchRule,
   BadChild,
@@ -46,7 +45,7 @@ ruleWalk = 3
 unfoldable pub wordWalk : List ℕ → ℕ → ℕ
 wordWalk g p = cond (ltb p (ruleAt g 0)) symbolWalk ruleWalk
 
--- "Then 8 to 18 in order": the room, the cycles of IDP, of EDP, the sequences
+-- "Then 8 to 18 in order": the room, the cycles of IDP, of EDP
 abbrev pub roomWalk : ℕ
 roomWalk = 4
 
@@ -55,9 +54,6 @@ idpWalk = 5
 
 abbrev pub edpWalk : ℕ
 edpWalk = 6
-
-abbrev pub readyWalk : ℕ
-readyWalk = 7
 
 -- the walk in which a case is tested: those of the tree "with 13 and 14 together in one walk up the nodes"
 abbrev pub walk : List ℕ → Refusal → ℕ
@@ -71,14 +67,13 @@ walk g (LeftOver p) = wordWalk g p
 walk g (TooShort b) = roomWalk
 walk g (CircularIdp r o) = idpWalk
 walk g (CircularEdp r o) = edpWalk
-walk g (Stuck r) = readyWalk
-walk g TreeSize = 8
-walk g (NoSuchRule n) = 9
-walk g (BadChild n) = 9
-walk g RootNotStart = 10
-walk g (ChildDiffers n) = 11
-walk g (NotOneParent n) = 12
-walk g ValuesTooShort = 13
+walk g TreeSize = 7
+walk g (NoSuchRule n) = 8
+walk g (BadChild n) = 8
+walk g RootNotStart = 9
+walk g (ChildDiffers n) = 10
+walk g (NotOneParent n) = 11
+walk g ValuesTooShort = 12
 
 -- case m is tested before case n
 pub data Earlier (g : List ℕ) (m n : Refusal) : Type 0 where

@@ -18,7 +18,7 @@ use Rattle.grammar.proofs.FormedTable.{accepted-exactly as read-exactly}
 use Rattle.order.specs.Paper.{IsOrdered}
 use Rattle.order.proofs.WholeGrammar.{computedSets, one-numbering, ordered-idp, sets-exist, neighbouring-same}
 use Rattle.sequences.specs.Paper.{Sequence}
-use Rattle.sequences.proofs.PaperSequence.{sequence-obeys, sequence-only, none-left-out}
+use Rattle.sequences.proofs.PaperSequence.{sequence-obeys, sequence-only, paper-ready, all-actions}
 use Rattle.plans.specs.declared.Planned as P
 use Rattle.plans.specs.Answer.{Outcome, accepted, outcome, room, answerOf, rowsAfter, planAfter}
 use Rattle.plans.proofs.Ordered.{accepted-exactly, ordered-free}
@@ -39,7 +39,7 @@ use Rattle.runs.proofs.Totals.{total-stands}
 use Rattle.runs.proofs.EverySoundPlan as run
 use Rattle.runner.specs.Whole as whole
 use Rattle.runner.specs.Answered as runner
-use Rattle.cases.specs.First.{readyWalk, walk}
+use Rattle.cases.specs.First.{edpWalk, walk}
 use Rattle.cases.specs.PlanningCases.{PlanCase}
 use Rattle.cases.specs.TreeCases.{TreeCase}
 use Rattle.cases.specs.AllCases.{RunCase, inPlan, inTree, PlanRefuses, Refuses}
@@ -107,7 +107,8 @@ module _ (g rows plan : List ℕ) where
           sequence = λ o r c. (_, sequence-obeys g good (ordered-idp g (given .formed) o) (o .set) (o .areSets) r c);
           oneSequence = λ o r c s t v w.
               let only = sequence-only g good (ordered-idp g (given .formed) o) (o .set) (o .areSets) r c in only s v ∙ sym (only t w);
-          noneLeftOut = λ o r c. none-left-out g good o (o .set) (o .areSets) r c;
+          alwaysReady = λ o r c. paper-ready g good o (o .set) (o .areSets) r c;
+          allActions = λ o r c. all-actions g good o (o .set) (o .areSets) r c;
           sound = λ o.
               let f = ordered-free g good o in
               subst⁻¹ (λ (x : Outcome). Sound g (planAfter g x plan)) (ordered-came o) (planned-sound g good plan (f .noIdpCycle) (f .noEdpCycle));
@@ -143,7 +144,7 @@ module _ (g rows plan t : List ℕ) (v : List ℤ) (budget : ℕ) where
   reached = outcome g (length rows) (length plan)
 
   -- a case of planning is the first of all cases exactly where it is the first of planning's
-  pub plan-first : (n : Refusal) → Refuses g (length rows) (length plan) t (length v) n → walk g n ≤ readyWalk → PlanRefuses g (length rows) (length plan) n
+  pub plan-first : (n : Refusal) → Refuses g (length rows) (length plan) t (length v) n → walk g n ≤ edpWalk → PlanRefuses g (length rows) (length plan) n
   plan-first n f h = record { applies = of-plan (f .applies); noEarlier = λ m c. f .noEarlier m (inPlan c) }
     where
       of-plan : RunCase g (length rows) (length plan) t (length v) n → PlanCase g (length rows) (length plan) n

@@ -40,7 +40,7 @@ use Rattle.runs.specs.Computing.{machineAt}
 use Rattle.runs.specs.Totals.{totalOf}
 use Rattle.runner.specs.Whole as whole
 use Rattle.runner.specs.Answered as runner
-use Rattle.cases.specs.First.{roomWalk, idpWalk, readyWalk, walk}
+use Rattle.cases.specs.First.{roomWalk, idpWalk, edpWalk, walk}
 use Rattle.cases.specs.AllCases.{RunCase, PlanRefuses, Refuses}
 use Rattle.cases.proofs.PlanTests.{plan-walk}
 use Rattle.cases.proofs.Refusals.{outcome-accepted, planning-refused, planning-accepted, run-refused, run-carried-out}
@@ -137,7 +137,7 @@ module _ (g rows plan : List ℕ) where
 
     same-plan : p ≡ planAfter g came plan
     same-plan =
-        let h : walk g n ≤ readyWalk = plan-walk g (length rows) (length plan) n (first .applies) in
+        let h : walk g n ≤ edpWalk = plan-walk g (length rows) (length plan) n (first .applies) in
         v .planStays h ∙ sym (w .planStays h)
 
   -- rows and plan of an accepted table are one
@@ -210,7 +210,7 @@ module _ (g rows plan t : List ℕ) (v : List ℤ) (budget : ℕ) where
       (λ h.
       let f = plan-first g rows plan t v budget n first h in
       (same-rows g rows plan n f s p left w (one .stays .rowsBeyond), same-plan g rows plan n f s p left w (one .stays .rowsBeyond)))
-      (below-or-not readyWalk (walk g n)) in
+      (below-or-not edpWalk (walk g n)) in
       record {
         answers = is ∙ sym e;
         valuesAre = one .valuesStay n is ∙ sym (computed-1-run g rows plan t v budget .valuesStay n e);

@@ -18,7 +18,7 @@ use Rattle.order.specs.Paper.{PaperSets, CircularIDP}
 use Rattle.plans.specs.Answer.{Outcome, untouched, circularIdp, unordered, accepted, outcome, rowsAfter, planAfter}
 use Rattle.plans.specs.Left.{RowsHold, EDP⁺, Written}
 use Rattle.plans.proofs.Left.{nine-holds, ten-holds, accepted-written}
-use Rattle.cases.specs.First.{ruleWalk, roomWalk, idpWalk, readyWalk, walk, earlierWalk}
+use Rattle.cases.specs.First.{ruleWalk, roomWalk, idpWalk, edpWalk, walk, earlierWalk}
 use Rattle.cases.specs.PlanningCases.{inTable, inPlanning}
 use Rattle.cases.specs.PlanningCases as case
 use Rattle.cases.specs.AllCases.{PlanRefuses}
@@ -64,7 +64,7 @@ module _ (g rows plan : List ℕ) where
       subst⁻¹ (λ (o : Outcome). Written g set (rowsAfter g o rows) (planAfter g o plan)) e
       (accepted-written g (accepted-read e) (accepted-free e) set sets rows plan)
 
-  pub leaves-of : (n : Refusal) → (walk g n ≤ readyWalk → PlanRefuses g (length rows) (length plan) n) → (readyWalk < walk g n → came ≡ accepted)
+  pub leaves-of : (n : Refusal) → (walk g n ≤ edpWalk → PlanRefuses g (length rows) (length plan) n) → (edpWalk < walk g n → came ≡ accepted)
       → Leaves g rows plan n (rowsAfter g came rows) (planAfter g came plan)
   unfolding rowsAfter planAfter
   leaves-of n early late =
@@ -82,7 +82,7 @@ module _ (g rows plan : List ℕ) where
             let f = early l in
             subst⁻¹ (λ (o : Outcome). RowsHold g (rowsAfter g o rows) (EDP⁺ g set)) (ten-came g rows plan n f h)
             (ten-holds g (read-past n f (omega arith)) (free-past n f h) set sets n rows))
-            (below-or-not readyWalk (walk g n));
+            (below-or-not edpWalk (walk g n));
         planStays = λ h.
             ap (λ (o : Outcome). planAfter g o plan) (outcome-refused g (length rows) (length plan) n .1 (early h)) ∙ plan-kept g n plan;
         written = λ h set sets. written-accepted (late h) set sets;

@@ -9,13 +9,15 @@ use mathlib.Core.List.{List}
 use lib.Dec.{T}
 use lib.IntN.{ℤ}
 use lib.ListN.{length}
+use Rattle.basics.specs.Lists.{member}
 use Rattle.refusals.specs.declared.Refusal.{Refusal}
 use Rattle.grammar.specs.Limits.{rowWords, planWords}
 use Rattle.grammar.specs.Table.{rules, functions, target, argument, arguments, position, ruleCounts}
 use Rattle.grammar.specs.WellFormed.{WellFormed}
 use Rattle.relations.specs.Paper.{IDP⁺, Path⁺}
 use Rattle.order.specs.Paper.{PaperSets, Neighbouring, CircularIDP, IsOrdered}
-use Rattle.sequences.specs.Paper.{Sequence, LeftOut}
+use Rattle.sequences.specs.Actions.{decode}
+use Rattle.sequences.specs.Paper.{Belongs, DoneBefore, Sequence, ReadyAmong}
 use Rattle.plans.specs.declared.Planned as P
 use Rattle.plans.specs.Left.{RowsHold, EDP⁺, Written, Beyond}
 use Rattle.trees.specs.Tree.{ruleOf, appliesRule, nodeAt, cell}
@@ -27,7 +29,7 @@ use Rattle.runs.specs.Sound.{Sound}
 use Rattle.runs.specs.Depth.{longestDown}
 use Rattle.runs.specs.Totals.{totalOf}
 use Rattle.runs.specs.Computing.{machineAt, Computing, ComputedBefore, ExactlyOnce}
-use Rattle.cases.specs.First.{roomWalk, idpWalk, readyWalk, walk}
+use Rattle.cases.specs.First.{roomWalk, idpWalk, edpWalk, walk}
 use Rattle.cases.specs.PlanningCases.{PlanCase}
 use Rattle.cases.specs.AllCases.{RunCase, PlanRefuses, Refuses}
 
@@ -38,19 +40,19 @@ use Rattle.cases.specs.AllCases.{RunCase, PlanRefuses, Refuses}
 pub record Leaves (g rows plan : List ℕ) (n : Refusal) (rows′ plan′ : List ℕ) : Type 1 where
   -- "1 to 8 change nothing."
   pub nothing : walk g n ≤ roomWalk → (rows′ ≡ rows) × (plan′ ≡ plan)
-  -- "9 leaves IDP paths in the rows; 10 and 11 leave EDP paths; the plan is then as it was found."
+  -- "9 leaves IDP paths in the rows", 10 EDP paths; "the plan is then as it was found."
   pub idpPaths : walk g n ≡ idpWalk → RowsHold g rows′ (λ r o b. IDP⁺ g r o b)
   pub edpPaths : idpWalk < walk g n → (set : ℕ → ℕ → ℕ) → PaperSets g set → RowsHold g rows′ (EDP⁺ g set)
-  pub planStays : walk g n ≤ readyWalk → plan′ ≡ plan
+  pub planStays : walk g n ≤ edpWalk → plan′ ≡ plan
   -- "12 to 18 come after planning has written rows and plan"
-  pub written : readyWalk < walk g n → (set : ℕ → ℕ → ℕ) → PaperSets g set → Written g set rows′ plan′
+  pub written : edpWalk < walk g n → (set : ℕ → ℕ → ℕ) → PaperSets g set → Written g set rows′ plan′
 
 -- "Words beyond these sizes stay."
 pub record Stays (g rows plan rows′ plan′ : List ℕ) : Type 0 where
   pub rowsBeyond : Beyond (rowWords (rules g)) rows rows′
   pub planBeyond : Beyond (planWords (rules g)) plan plan′
 
--- of `plan`: it refuses with the first of the cases 1 to 11 that applies (cases/specs), and "An accepted plan returns 256 + 112R."
+-- of `plan`: it refuses with the first of the cases 1 to 10 that applies (cases/specs), and "An accepted plan returns 256 + 112R."
 pub record Demand1 (g rows plan : List ℕ) (answer : P.Planned) (rows′ plan′ : List ℕ) : Type 1 where
   pub refuses : (n : Refusal) → (answer ≡ P.the-variants.Refused n) ↔ PlanRefuses g (length rows) (length plan) n
   pub accepts : (k : ℕ) → (answer ≡ P.the-variants.Accepted k)
@@ -86,10 +88,15 @@ pub record Demand2 (g : List ℕ) (answer : P.Planned) (rows′ plan′ : List �
   pub oneNumbering : (s t : ℕ → ℕ → ℕ) → PaperSets g s → PaperSets g t → (x a : ℕ) → s x a ≡ t x a
   -- "(000 adds neighbouring sets only; the paths are equal.)"
   pub neighbouring : ¬ CircularIDP g → (set : ℕ → ℕ → ℕ) → PaperSets g set → (r a b : ℕ) → EDP⁺ g set r a b ↔ Path⁺ (Neighbouring g set r) a b
-  -- of the tie rule's sequences each rule has one and no other, and it has every action of the rule: 11 never answers
+  -- of the tie rule's sequences each rule has one and no other
   pub sequence : (o : IsOrdered g) (r : ℕ) → T (ruleCounts g r) → (out : List ℕ) × Sequence g (o .set) r out
   pub oneSequence : (o : IsOrdered g) (r : ℕ) → T (ruleCounts g r) → (s t : List ℕ) → Sequence g (o .set) r s → Sequence g (o .set) r t → s ≡ t
-  pub noneLeftOut : (o : IsOrdered g) (r : ℕ) → T (ruleCounts g r) → ¬ LeftOut g (o .set) r
+  -- an action is always ready: of any actions of a rule that remain, one follows none of them
+  pub alwaysReady : (o : IsOrdered g) (r : ℕ) → T (ruleCounts g r) → (remaining : List ℕ) → 1 ≤ length remaining
+      → ((a : ℕ) → T (member a remaining) → Belongs g (o .set) r (decode a)) → ReadyAmong g (o .set) r remaining
+  -- until the sequence is complete: it has all actions of the rule
+  pub allActions : (o : IsOrdered g) (r : ℕ) → T (ruleCounts g r) → (out : List ℕ) → Sequence g (o .set) r out → (a : ℕ)
+      → Belongs g (o .set) r (decode a) → DoneBefore out (length out) a
   -- whatever the planner writes is sound, so demand 3 holds for it
   pub sound : IsOrdered g → Sound g plan′
 

@@ -15,8 +15,8 @@ use Rattle.sets.specs.Visits.{setNumber, highest, lastSet, visits, visitOfSet, 
 use Rattle.order.specs.Computed.{besideArc, edp, edpPath, hasCycle, circular, cycleRule, cycleOccurrence}
 use Rattle.sequences.specs.Actions.{decode, belongs, isAction, actionsOf, visitAt, inheritedOf, synthesizedOf, makes}
 use Rattle.sequences.specs.Follows.{linked, beforeVisit, beforeLeave, besides, follows}
-use Rattle.sequences.specs.Order.{ready, firstReady, order, sequenceOf, isStuck}
-use Rattle.plans.specs.Answer.{room, stuckIn, idpPaths, edpPaths, afterEdp, afterIdp, afterRoom, afterReading, outcome, sequencesOf, acceptedPlan, answerOf, rowsAfter, planAfter}
+use Rattle.sequences.specs.Order.{ready, firstReady, order, sequenceOf}
+use Rattle.plans.specs.Answer.{room, idpPaths, edpPaths, afterIdp, afterRoom, afterReading, outcome, sequencesOf, acceptedPlan, answerOf, rowsAfter, planAfter}
 use Rattle.plans.specs.Buffers.{over, rowsOf, sequenceWords, planOf}
 use Rattle.trees.specs.Checking.{sizeFits, knownWord, slotFits, slotsFit, nodeFault, rootIsStart, childrenFit, namesNode, onceChild, checkTree}
 use Rattle.trees.specs.Equations.{argumentValue, functionValue}
@@ -30,5 +30,5 @@ use Rattle.text.specs.Listing.{refusalLine, firstLine, symbolLine, ruleLine, pl
 use Rattle.examples.specs.Claims.{planned, ranG}
 
 unfoldable pub opened : Unit {0}
-unfolding tabulate blocks padded passing member any without _and_ _or_ _implies_ some all least count collect insert remove union common minus lowest bits-count hold constant larger smaller less choose servedBefore exact result present ranged header symbolFault startClass leftFault definedBelow argumentFault functionFault bodyFault complete ruleBefore ruleFault leftOver readTable kind attributes mask argumentWords functionAt ruleAt rightLength symbolOf functions target operation argument arguments occurrence inheritedAt definingClass defining _then_ unless each dp occurrences arcIn inducedArc idp idpPath inducedAt isInduced round sameState rounds idsOf path takes placedUpTo setsOfSymbol setsOf ofClass setNumber highest lastSet visits visitOfSet visitOf besideArc edp edpPath hasCycle circular cycleRule cycleOccurrence decode belongs isAction actionsOf visitAt inheritedOf synthesizedOf makes linked beforeVisit beforeLeave besides follows ready firstReady order sequenceOf isStuck room stuckIn idpPaths edpPaths afterEdp afterIdp afterRoom afterReading outcome sequencesOf acceptedPlan answerOf rowsAfter planAfter over rowsOf sequenceWords planOf sizeFits knownWord slotFits slotsFit nodeFault rootIsStart childrenFit namesNode onceChild checkTree argumentValue functionValue usedSlots symbolAtNode nodeAt cell started functionFor computed act actionOf stepOn step after idle lastAnswer runOn ran totalUpTo total runAnswer valuesAfter sequenceLength actionAt digits decimal spaced line refusalLine firstLine symbolLine ruleLine planText outcomeText tableText wordsOf bytesText listing planned ranG
+unfolding tabulate blocks padded passing member any without _and_ _or_ _implies_ some all least count collect insert remove union common minus lowest bits-count hold constant larger smaller less choose servedBefore exact result present ranged header symbolFault startClass leftFault definedBelow argumentFault functionFault bodyFault complete ruleBefore ruleFault leftOver readTable kind attributes mask argumentWords functionAt ruleAt rightLength symbolOf functions target operation argument arguments occurrence inheritedAt definingClass defining _then_ unless each dp occurrences arcIn inducedArc idp idpPath inducedAt isInduced round sameState rounds idsOf path takes placedUpTo setsOfSymbol setsOf ofClass setNumber highest lastSet visits visitOfSet visitOf besideArc edp edpPath hasCycle circular cycleRule cycleOccurrence decode belongs isAction actionsOf visitAt inheritedOf synthesizedOf makes linked beforeVisit beforeLeave besides follows ready firstReady order sequenceOf room idpPaths edpPaths afterIdp afterRoom afterReading outcome sequencesOf acceptedPlan answerOf rowsAfter planAfter over rowsOf sequenceWords planOf sizeFits knownWord slotFits slotsFit nodeFault rootIsStart childrenFit namesNode onceChild checkTree argumentValue functionValue usedSlots symbolAtNode nodeAt cell started functionFor computed act actionOf stepOn step after idle lastAnswer runOn ran totalUpTo total runAnswer valuesAfter sequenceLength actionAt digits decimal spaced line refusalLine firstLine symbolLine ruleLine planText outcomeText tableText wordsOf bytesText listing planned ranG
 opened = tt

@@ -6,7 +6,6 @@ use mathlib.Core.Bool.{Bool, true, false, cond}
 use mathlib.Core.List.{List}
 use native.Mathlib.Omega.{arith}
 use lib.ListN.{length}
-use Rattle.basics.specs.Tests.{some}
 use Rattle.basics.specs.Lists.{padded}
 use Rattle.basics.proofs.TestLaws.{chosen, passed-over, true-T, false-T}
 use Rattle.refusals.specs.declared.Refusal.{Refusal}
@@ -39,10 +38,8 @@ use Rattle.plans.specs.Answer.{
   unordered,
   accepted,
   room,
-  stuckIn,
   idpPaths,
   edpPaths,
-  afterEdp,
   afterIdp,
   afterRoom,
   afterReading,
@@ -129,17 +126,15 @@ after-nine : (g : List ℕ) → circular g (idps g) ≡ false → afterEight g �
 unfolding afterRoom
 after-nine g e = passed-over (circular g (idps g)) _ _ (false-T _ e)
 
--- 10, 11 and a plan leave the paths of EDP
+-- 10 and a plan leave the paths of EDP
 edp-left : (g rows : List ℕ) → rowsAfter g (afterNine g) rows ≡ over (rowsOf g (edps g)) rows
-unfolding afterIdp afterEdp
+unfolding afterIdp rowsAfter
 edp-left g rows =
-    either (circular g (edps g)) _ (afterEdp g (idsOf g) (sets g))
-    (either (some (rules g) (λ r. stuckIn g (idsOf g) (sets g) r)) _ accepted (unfold rowsAfter in refl))
+    either (circular g (edps g)) _
   where
-    either : (b : Bool) (n : Refusal) (o : Outcome) → rowsAfter g o rows ≡ over (rowsOf g (edps g)) rows
-        → rowsAfter g (cond b (unordered n) o) rows ≡ over (rowsOf g (edps g)) rows
-    either true n o e = unfold rowsAfter in refl
-    either false n o e = e
+    either : (b : Bool) (n : Refusal) → rowsAfter g (cond b (unordered n) accepted) rows ≡ over (rowsOf g (edps g)) rows
+    either true n = refl
+    either false n = refl
 
 pub noncircular-came : (g rows₀ plan₀ rows : List ℕ) (answer : P.Planned) (next plan : List ℕ) (n : ℕ) (k : Cycle)
     → rows ≡ over (rowsOf g (idps g)) rows₀ → n ≡ rules g → k ≡ cycleIn rows n → k ≡ Nothing → Came g (afterNine g) rows plan₀ answer next plan

@@ -1,4 +1,4 @@
-// Planning: a grammar's table in, its sets and visit-sequences out, or the first refusal of 1 to 11 that applies (000, section 7).
+// Planning: a grammar's table in, its sets and visit-sequences out, or the first refusal of 1 to 10 that applies (000, section 7).
 use grammar::Offsets;
 use grammar::ROWS;
 use grammar::RULE_WORDS;

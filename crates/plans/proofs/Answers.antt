@@ -1,18 +1,17 @@
 -- What planning answers, for every table that the reader accepts and buffers that have room: 9 exactly where some IDP has a cycle, 10
--- exactly where none has and some EDP has, each with the lowest rule and occurrence, and else 11 or a plan. Assumes nothing.
+-- exactly where none has and some EDP has, each with the lowest rule and occurrence, and else a plan. Assumes nothing.
 use Prim.Native.Nat.{ℕ, _<_}
 use mathlib.Core.Path.{_≡_, _∙_, ap}
 use mathlib.Core.Logic.{⊎-elim, _↔_}
 use mathlib.Core.Bool.{false}
 use mathlib.Core.List.{List}
 use lib.Dec.{T, not-T}
-use Rattle.basics.specs.Tests.{some, least}
-use Rattle.basics.proofs.TestLaws.{tested, chosen, passed-over, some-find, false-T}
+use Rattle.basics.proofs.TestLaws.{tested, chosen, passed-over, false-T}
 use Rattle.refusals.specs.declared.Refusal.{Refusal}
-use Rattle.refusals.specs.declared.Refusal.the-variants.{CircularIdp, CircularEdp, Stuck}
+use Rattle.refusals.specs.declared.Refusal.the-variants.{CircularIdp, CircularEdp}
 use Rattle.grammar.specs.Limits.{mostOccurrences}
 use Rattle.grammar.specs.declared.Verdict.the-variants.{Good}
-use Rattle.grammar.specs.Table.{rules, ruleCounts}
+use Rattle.grammar.specs.Table.{ruleCounts}
 use Rattle.grammar.specs.Reading.{readTable}
 use Rattle.grammar.proofs.AcceptedTable.{accepted}
 use Rattle.grammar.proofs.VerdictLaws.{then-good}
@@ -33,10 +32,8 @@ use Rattle.plans.specs.Answer.{
   unordered,
   accepted as accepts,
   room,
-  stuckIn,
   idpPaths,
   edpPaths,
-  afterEdp,
   afterIdp,
   afterRoom,
   afterReading,
@@ -131,29 +128,20 @@ module _ (g : List ℕ) (good : readTable g ≡ Good) where
         ⊎-elim
         (λ t. (
           past-idp none
-              ∙ chosen (circular g (edpPaths g (idsOf g) (setsFor g))) (unordered (edpCycle g)) (afterEdp g (idsOf g) (setsFor g)) t,
+              ∙ chosen (circular g (edpPaths g (idsOf g) (setsFor g))) (unordered (edpCycle g)) accepts t,
           cycle-found g (edpPaths g (idsOf g) (setsFor g)) (λ r o. OnCycle (EDP g (setNumber (setsFor g)) r) o) edp-exact edp-inside t,
         ))
         (λ t.
         absurd (cycle-none g (edpPaths g (idsOf g) (setsFor g)) (λ r o. OnCycle (EDP g (setNumber (setsFor g)) r) o) edp-exact edp-inside t r o c p))
         (tested (circular g (edpPaths g (idsOf g) (setsFor g))))
 
-    -- where the grammar is ordered, planning goes on to the sequences
-    past-edp : (CircularIDP g → ⊥) → Ordered g (setNumber (setsFor g)) → outcome g rowsLength planLength ≡ afterEdp g (idsOf g) (setsFor g)
+    -- a plan, where the grammar is ordered
+    pub planned : (CircularIDP g → ⊥) → Ordered g (setNumber (setsFor g)) → outcome g rowsLength planLength ≡ accepts
     unfolding afterIdp
-    past-edp none ordered =
+    planned none ordered =
         past-idp none
-        ∙ passed-over (circular g (edpPaths g (idsOf g) (setsFor g))) (unordered (edpCycle g)) (afterEdp g (idsOf g) (setsFor g))
+        ∙ passed-over (circular g (edpPaths g (idsOf g) (setsFor g))) (unordered (edpCycle g)) accepts
         (not-T (circular g (edpPaths g (idsOf g) (setsFor g)))
         (λ t.
         let w = cycle-found g (edpPaths g (idsOf g) (setsFor g)) (λ r o. OnCycle (EDP g (setNumber (setsFor g)) r) o) edp-exact edp-inside t in
         ordered (edpRule g) (edpOccurrence g) (w .counts) (w .on)))
-
-    -- a plan, where the grammar is ordered and no rule gets stuck
-    pub planned : (CircularIDP g → ⊥) → Ordered g (setNumber (setsFor g)) → ((r : ℕ) → T (stuckIn g (idsOf g) (setsFor g) r) → ⊥)
-        → outcome g rowsLength planLength ≡ accepts
-    unfolding afterEdp
-    planned none ordered free =
-        past-edp none ordered
-        ∙ passed-over (some (rules g) (λ r. stuckIn g (idsOf g) (setsFor g) r)) (unordered (Stuck (least (rules g) (λ r. stuckIn g (idsOf g) (setsFor g) r)))) accepts
-        (not-T (some (rules g) (λ r. stuckIn g (idsOf g) (setsFor g) r)) (λ t. let w = some-find _ _ t in free (w .0) (w .2)))

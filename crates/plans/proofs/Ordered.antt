@@ -1,22 +1,17 @@
 -- A well-formed table with room is accepted exactly if it is ordered in the paper's sense: no IDP has a cycle, so that the sets exist, and
--- no EDP has one. An ordered grammar always has an action ready, so 11 never answers. Assumes nothing.
+-- no EDP has one. Assumes nothing.
 use Prim.Native.Nat.{ℕ}
-use mathlib.Core.Path.{_≡_, sym, _∙_, subst}
+use mathlib.Core.Path.{_≡_, sym, _∙_}
 use mathlib.Core.Logic.{_↔_}
-use mathlib.Core.Bool.{Bool}
 use mathlib.Core.List.{List}
 use native.Mathlib.Omega.{arith}
-use lib.Dec.{T}
-use Rattle.basics.proofs.TestLaws.{and-left, and-right}
 use Rattle.refusals.specs.declared.Refusal.{Refusal}
 use Rattle.grammar.specs.declared.Verdict.the-variants.{Good}
 use Rattle.grammar.specs.Reading.{readTable}
-use Rattle.relations.specs.Computed.{idsOf}
 use Rattle.sets.specs.Visits.{setNumber}
 use Rattle.order.specs.Paper.{CircularIDP, Ordered, IsOrdered}
 use Rattle.order.proofs.WholeGrammar.{ordered-computed}
-use Rattle.sequences.proofs.PlannedSequences.{never-refused-11}
-use Rattle.plans.specs.Answer.{circularIdp, unordered, accepted, room, stuckIn, outcome}
+use Rattle.plans.specs.Answer.{circularIdp, unordered, accepted, room, outcome}
 use Rattle.plans.proofs.Answers.{setsFor, nine, ten, planned}
 
 -- no IDP has a cycle, so that the sets exist, and no EDP over the computed sets has one
@@ -32,15 +27,9 @@ module _ (g : List ℕ) (good : readTable g ≡ Good) where
   pub free-ordered : CycleFree g → IsOrdered g
   free-ordered f = ordered-computed g good .1 (f .noIdpCycle, f .noEdpCycle)
 
-  -- no rule of an ordered grammar gets stuck
-  pub never-stuck : CycleFree g → (r : ℕ) → T (stuckIn g (idsOf g) (setsFor g) r) → ⊥
-  unfolding stuckIn
-  never-stuck h r t =
-      subst (λ (b : Bool). T b) (never-refused-11 g good (h .noIdpCycle) (h .noEdpCycle) r (and-left _ _ t)) (and-right _ _ t)
-
   module _ (rowsLength planLength : ℕ) (space : room g rowsLength planLength ≡ Good) where
     pub free-accepted : CycleFree g → outcome g rowsLength planLength ≡ accepted
-    free-accepted h = planned g good rowsLength planLength space (h .noIdpCycle) (h .noEdpCycle) (never-stuck h)
+    free-accepted h = planned g good rowsLength planLength space (h .noIdpCycle) (h .noEdpCycle)
 
     pub accepted-free : outcome g rowsLength planLength ≡ accepted → CycleFree g
     accepted-free e =

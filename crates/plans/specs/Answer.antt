@@ -1,22 +1,21 @@
--- Document 01, refusals 8 to 11, and what planning answers and leaves in the lent buffers for every input.
+-- Document 01, refusals 8 to 10, and what planning answers and leaves in the lent buffers for every input.
 -- Computed: no demand rests on it. Assumes nothing.
 use Prim.Native.Nat.{ℕ}
 use mathlib.Core.Bool.{Bool, cond}
 use mathlib.Core.List.{List}
 use lib.Dec.{leb}
-use Rattle.basics.specs.Tests.{_and_, some, least}
 use Rattle.refusals.specs.declared.Refusal.{Refusal}
-use Rattle.refusals.specs.declared.Refusal.the-variants.{TooShort, CircularIdp, CircularEdp, Stuck}
+use Rattle.refusals.specs.declared.Refusal.the-variants.{TooShort, CircularIdp, CircularEdp}
 use Rattle.grammar.specs.declared.Verdict.{Verdict}
 use Rattle.grammar.specs.declared.Verdict.the-variants.{Good, Refused}
 use Rattle.grammar.specs.Limits.{rowWords, planWords}
-use Rattle.grammar.specs.Table.{rules, ruleCounts}
+use Rattle.grammar.specs.Table.{rules}
 use Rattle.grammar.specs.Verdicts.{_then_, unless}
 use Rattle.grammar.specs.Reading.{readTable}
 use Rattle.relations.specs.Computed.{idsOf, idpPath}
 use Rattle.sets.specs.Computed.{setsOf}
 use Rattle.order.specs.Computed.{edpPath, circular, cycleRule, cycleOccurrence}
-use Rattle.sequences.specs.Order.{sequenceOf, isStuck}
+use Rattle.sequences.specs.Order.{sequenceOf}
 use Rattle.plans.specs.declared.Planned as P
 use Rattle.plans.specs.Buffers.{over, rowsOf, planOf}
 
@@ -26,7 +25,7 @@ pub data Outcome : Type 0 where
   untouched : Refusal → Outcome
   -- "9 leaves IDP paths in the rows"
   circularIdp : Refusal → Outcome
-  -- "10 and 11 leave EDP paths; the plan is then as it was found"
+  -- 10 leaves EDP paths; "the plan is then as it was found"
   unordered : Refusal → Outcome
   -- rows and plan are written
   accepted : Outcome
@@ -36,10 +35,6 @@ unfoldable pub room : List ℕ → ℕ → ℕ → Verdict
 room g rowsLength planLength =
     unless (leb (rowWords (rules g)) rowsLength) (TooShort 0) then unless (leb (planWords (rules g)) planLength) (TooShort 1)
 
--- the lowest rule that got stuck
-unfoldable pub stuckIn : List ℕ → List ℕ → List ℕ → ℕ → Bool
-stuckIn g ids s r = ruleCounts g r and isStuck g ids s r
-
 -- the paths of a whole grammar: rule, occurrence, occurrence
 unfoldable pub idpPaths : List ℕ → List ℕ → ℕ → ℕ → ℕ → Bool
 idpPaths g ids r a b = idpPath g ids r a b
@@ -47,16 +42,11 @@ idpPaths g ids r a b = idpPath g ids r a b
 unfoldable pub edpPaths : List ℕ → List ℕ → List ℕ → ℕ → ℕ → ℕ → Bool
 edpPaths g ids s r a b = edpPath g ids s r a b
 
--- 11, and else the grammar is accepted
-unfoldable pub afterEdp : List ℕ → List ℕ → List ℕ → Outcome
-afterEdp g ids s =
-    cond (some (rules g) (λ r. stuckIn g ids s r)) (unordered (Stuck (least (rules g) (λ r. stuckIn g ids s r)))) accepted
-
--- 10: "no IDP has a cycle, some EDP has"
+-- 10: "no IDP has a cycle, some EDP has"; else the grammar is accepted
 unfoldable pub afterIdp : List ℕ → List ℕ → List ℕ → Outcome
 afterIdp g ids s =
     cond (circular g (edpPaths g ids s))
-    (unordered (CircularEdp (cycleRule g (edpPaths g ids s)) (cycleOccurrence g (edpPaths g ids s)))) (afterEdp g ids s)
+    (unordered (CircularEdp (cycleRule g (edpPaths g ids s)) (cycleOccurrence g (edpPaths g ids s)))) accepted
 
 -- 9: "some IDP has a cycle"
 unfoldable pub afterRoom : List ℕ → List ℕ → Outcome

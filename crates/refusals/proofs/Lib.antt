@@ -1,1 +1,2 @@
+pub mod NoEleven
 pub mod Unique

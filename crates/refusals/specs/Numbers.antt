@@ -13,7 +13,6 @@ use Rattle.refusals.specs.declared.Refusal.the-variants.{
   TooShort,
   CircularIdp,
   CircularEdp,
-  Stuck,
   TreeSize,
   NoSuchRule,
   BadChild,
@@ -35,7 +34,6 @@ numberOf (LeftOver p) = 7
 numberOf (TooShort p) = 8
 numberOf (CircularIdp r o) = 9
 numberOf (CircularEdp r o) = 10
-numberOf (Stuck r) = 11
 numberOf TreeSize = 12
 numberOf (NoSuchRule n) = 13
 numberOf (BadChild n) = 14
@@ -56,7 +54,6 @@ placeOf (LeftOver p) = p
 placeOf (TooShort p) = p
 placeOf (CircularIdp r o) = r
 placeOf (CircularEdp r o) = r
-placeOf (Stuck r) = r
 placeOf TreeSize = 0
 placeOf (NoSuchRule n) = n
 placeOf (BadChild n) = n
@@ -77,7 +74,6 @@ secondOf (LeftOver p) = 0
 secondOf (TooShort p) = 0
 secondOf (CircularIdp r o) = o
 secondOf (CircularEdp r o) = o
-secondOf (Stuck r) = 0
 secondOf TreeSize = 0
 secondOf (NoSuchRule n) = 0
 secondOf (BadChild n) = 0

@@ -11,11 +11,10 @@ pub enum Refusal {
     NotDefining(usize),
     Undefined(usize),
     LeftOver(usize),
-    // Planning: which buffer is short; the rule and occurrence on a cycle; the rule that got stuck.
+    // Planning: which buffer is short; the rule and occurrence on a cycle.
     TooShort(usize),
     CircularIdp(usize, usize),
     CircularEdp(usize, usize),
-    Stuck(usize),
     // The tree and the values: the place is a node.
     TreeSize,
     NoSuchRule(usize),
@@ -41,7 +40,6 @@ pub fn number(r: Refusal) -> usize
         Refusal::TooShort(_) => 8,
         Refusal::CircularIdp(_, _) => 9,
         Refusal::CircularEdp(_, _) => 10,
-        Refusal::Stuck(_) => 11,
         Refusal::TreeSize => 12,
         Refusal::NoSuchRule(_) => 13,
         Refusal::BadChild(_) => 14,
@@ -67,7 +65,6 @@ pub fn place(r: Refusal) -> usize
         Refusal::TooShort(p) => p,
         Refusal::CircularIdp(p, _) => p,
         Refusal::CircularEdp(p, _) => p,
-        Refusal::Stuck(p) => p,
         Refusal::TreeSize => 0,
         Refusal::NoSuchRule(p) => p,
         Refusal::BadChild(p) => p,
@@ -93,7 +90,6 @@ pub fn second_place(r: Refusal) -> usize
         Refusal::TooShort(_) => 0,
         Refusal::CircularIdp(_, o) => o,
         Refusal::CircularEdp(_, o) => o,
-        Refusal::Stuck(_) => 0,
         Refusal::TreeSize => 0,
         Refusal::NoSuchRule(_) => 0,
         Refusal::BadChild(_) => 0,

@@ -1,17 +1,15 @@
 -- An action is always ready: of any actions of a rule one of least height follows none of the others.
--- So the sequence never stops with actions left, and refusal 11 never applies. Assumes nothing.
+-- So the sequence never stops with actions left. Assumes nothing.
 use Prim.Native.Nat.{ℕ, _≤_}
 use mathlib.Core.Path.{_≡_, refl, sym, _∙_, ap}
-use mathlib.Core.Bool.{false}
 use mathlib.Core.List.{List}
 use native.Mathlib.Omega.{arith}
-use lib.Dec.{T, eqb, T-not, not-T}
+use lib.Dec.{T}
 use lib.ListN.{length}
 use Rattle.basics.specs.Lists.{member}
-use Rattle.basics.proofs.TestLaws.{T-false, eq-T}
 use Rattle.sequences.specs.Actions.{decode, isAction, actionsOf}
 use Rattle.sequences.specs.Follows.{follows}
-use Rattle.sequences.specs.Order.{ready, sequenceOf, isStuck}
+use Rattle.sequences.specs.Order.{ready, sequenceOf}
 use Rattle.sequences.proofs.Rising.{lowest-member}
 use Rattle.sequences.proofs.TieLaws.{ready-intro}
 use Rattle.sequences.proofs.OrderLaws.{order-all}
@@ -38,11 +36,3 @@ module _ (g ids s : List ℕ) (r : ℕ) (h : Orderly g ids s r) where
       ap (λ (out : List ℕ). length out) (sym (sequence-built g ids s r))
       ∙ order-all (λ a b. follows g ids s r a b) (length (actionsOf g s r)) (actionsOf g s r) refl (actions-rise g s r) (actions-below g s r)
       (λ xs l f. always-ready xs l (λ a m. actions-member g s r a (f a m)))
-
-  -- 11, "no action is ready and some remain", never applies
-  pub never-stuck : isStuck g ids s r ≡ false
-  unfolding isStuck
-  never-stuck =
-      T-false (isStuck g ids s r)
-      (not-T (isStuck g ids s r)
-      (λ t. T-not (eqb (length (sequenceOf g ids s r)) (length (actionsOf g s r))) t (eq-T _ _ sequence-whole)))

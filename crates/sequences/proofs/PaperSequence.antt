@@ -1,5 +1,6 @@
 -- What follows what by the tests is what follows what by the paper, for the actions of a rule; so exactly one list obeys the tie rule over the
--- paper's facts, the constructed sequence, and in an ordered grammar it has every action of the rule. Assumes nothing.
+-- paper's facts, the constructed sequence. In an ordered grammar an action is always ready, so the sequence has every action of the rule.
+-- Assumes nothing.
 use Prim.Native.Nat.{ℕ, suc, _≤_, _<_}
 use mathlib.Core.Path.{_≡_, refl, sym, _∙_, ap, subst, subst⁻¹}
 use mathlib.Core.Logic.{⊎-elim, _↔_}
@@ -38,7 +39,7 @@ use Rattle.sequences.specs.Actions.{
 }
 use Rattle.sequences.specs.Follows.{beforeVisit, beforeLeave, besides, follows}
 use Rattle.sequences.specs.Order.{sequenceOf}
-use Rattle.sequences.specs.Paper.{Belongs, Follows, DoneBefore, May, TieRule, Sequence, LeftOut}
+use Rattle.sequences.specs.Paper.{Belongs, Follows, DoneBefore, May, TieRule, Sequence, ReadyAmong}
 use Rattle.sequences.specs.Paper as paper
 use Rattle.sequences.proofs.ActionNumbers.{decode-injective, number-decode}
 use Rattle.sequences.proofs.ActionLaws.{member-actions, actions-member, actions-below}
@@ -51,6 +52,9 @@ use Rattle.sequences.proofs.FollowsLaws.{
   leave-after-compute,
   last-leave-after,
 }
+use Rattle.sequences.proofs.TieLaws.{ready-use}
+use Rattle.sequences.proofs.OrderlyRules.{Orderly}
+use Rattle.sequences.proofs.AlwaysReady.{always-ready}
 use Rattle.sequences.proofs.SequenceTie.{sequence-tie, sequence-one}
 use Rattle.sequences.proofs.SequenceLaws.{every-action}
 use Rattle.sequences.proofs.PlannedSequences.{orderly, planned-short}
@@ -213,15 +217,34 @@ module _ (g : List ℕ) (good : readTable g ≡ Good) (free : CircularIDP g → 
   pub paper-short : (out : List ℕ) → Sequence g set r out → length out ≤ mostActions
   paper-short out t = omega (arith, ap length (sequence-only out t), planned-short g r)
 
--- "no action is ready and some remain" never holds of an ordered grammar: its sequences have every action
-pub none-left-out : (g : List ℕ) → readTable g ≡ Good → (o : IsOrdered g) → (set : ℕ → ℕ → ℕ) → PaperSets g set → (r : ℕ) → T (ruleCounts g r)
-    → LeftOut g set r → ⊥
-none-left-out g good o set sets r counts left =
-    let free : CircularIDP g → ⊥ = ordered-idp g (accepted g good) o in
-    let one : left .out ≡ sequenceOf g (idsOf g) (setsOf g (idsOf g)) r = sequence-only g good free set sets r counts (left .out) (left .sequence) in
-    let a : T (member (left .action) (actionsOf g (setsOf g (idsOf g)) r)) = paper-member g good free set sets r counts (left .action) (left .belongs) in
-    left .nowhere
-    (subst⁻¹ (λ (l : List ℕ). DoneBefore l (length l) (left .action)) one
-    (every-action g (idsOf g) (setsOf g (idsOf g)) r
-    (orderly g good free (ordered-back g good free (o .set) (o .areSets) (o .noCycle)) r counts) (left .action)
-    (actions-member g (setsOf g (idsOf g)) r (left .action) a)))
+-- In an ordered grammar an action is always ready, and every sequence is whole.
+module _ (g : List ℕ) (good : readTable g ≡ Good) (o : IsOrdered g) (set : ℕ → ℕ → ℕ) (sets : PaperSets g set) (r : ℕ)
+    (counts : T (ruleCounts g r)) where
+  no-idp-cycle : CircularIDP g → ⊥
+  no-idp-cycle = ordered-idp g (accepted g good) o
+
+  in-order : Orderly g (idsOf g) (setsOf g (idsOf g)) r
+  in-order = orderly g good no-idp-cycle (ordered-back g good no-idp-cycle (o .set) (o .areSets) (o .noCycle)) r counts
+
+  member-of : (a : ℕ) → Belongs g set r (decode a) → T (member a (actionsOf g (setsOf g (idsOf g)) r))
+  member-of = paper-member g good no-idp-cycle set sets r counts
+
+  -- of any actions of the rule that remain, one follows none of them
+  pub paper-ready : (remaining : List ℕ) → 1 ≤ length remaining → ((a : ℕ) → T (member a remaining) → Belongs g set r (decode a))
+      → ReadyAmong g set r remaining
+  paper-ready remaining some belong =
+      let w = always-ready g (idsOf g) (setsOf g (idsOf g)) r in-order remaining some
+      (λ a m. actions-member g (setsOf g (idsOf g)) r a (member-of a (belong a m))) in
+      record {
+        action = w .0;
+        remains = w .1;
+        followsNone = λ b m f.
+            ready-use (λ a b. follows g (idsOf g) (setsOf g (idsOf g)) r a b) remaining (w .0) (w .2) b m
+            (follows-same g good no-idp-cycle set sets r counts (w .0) b (member-of (w .0) (belong (w .0) (w .1))) (member-of b (belong b m)) .1 f);
+      }
+
+  -- so every sequence has all actions of the rule
+  pub all-actions : (out : List ℕ) → Sequence g set r out → (a : ℕ) → Belongs g set r (decode a) → DoneBefore out (length out) a
+  all-actions out sequence a belongs =
+      subst⁻¹ (λ (l : List ℕ). DoneBefore l (length l) a) (sequence-only g good no-idp-cycle set sets r counts out sequence)
+      (every-action g (idsOf g) (setsOf g (idsOf g)) r in-order a (actions-member g (setsOf g (idsOf g)) r a (member-of a belongs)))

@@ -1,8 +1,7 @@
 -- The planner's own sequences: for a table that is accepted and ordered, every rule has what the other laws ask for.
--- So refusal 11 never applies to it, and no rule's sequence is over 104 actions. Assumes nothing.
+-- No rule's sequence is over 104 actions. Assumes nothing.
 use Prim.Native.Nat.{ℕ, _≤_, _<_}
 use mathlib.Core.Path.{_≡_}
-use mathlib.Core.Bool.{false}
 use mathlib.Core.List.{List}
 use lib.Dec.{T, eqb→eq}
 use lib.ListN.{length}
@@ -22,9 +21,8 @@ use Rattle.order.specs.Paper.{CircularIDP, Ordered}
 use Rattle.order.proofs.ExactEdp.{edp-exact}
 use Rattle.order.proofs.PaperSets.{set-placed, ids-down}
 use Rattle.sequences.specs.Actions.{mostActions}
-use Rattle.sequences.specs.Order.{sequenceOf, isStuck}
+use Rattle.sequences.specs.Order.{sequenceOf}
 use Rattle.sequences.proofs.OrderlyRules.{Placed, Orderly}
-use Rattle.sequences.proofs.AlwaysReady.{never-stuck}
 use Rattle.sequences.proofs.SequenceLaws.{sequence-short}
 
 -- a planned sequence has at most 104 actions
@@ -53,7 +51,3 @@ module _ (g : List ℕ) (good : readTable g ≡ Good) (none : CircularIDP g → 
         down = down;
         acyclic = λ o p. ordered r o c (path-map (λ a b t. edp-exact g good (setsOf g (idsOf g)) r c a b .0 t) p);
       }
-
-  -- 11 never applies to an ordered table
-  pub never-refused-11 : (r : ℕ) → T (ruleCounts g r) → isStuck g (idsOf g) (setsOf g (idsOf g)) r ≡ false
-  never-refused-11 r c = never-stuck g (idsOf g) (setsOf g (idsOf g)) r (orderly r c)

@@ -30,7 +30,3 @@ order after (suc n) remaining =
 unfoldable pub sequenceOf : List ℕ → List ℕ → List ℕ → ℕ → List ℕ
 sequenceOf g ids s r =
     let actions = actionsOf g s r in order (λ a b. follows g ids s r a b) (length actions) actions
-
--- 11: "no action is ready and some remain"
-unfoldable pub isStuck : List ℕ → List ℕ → List ℕ → ℕ → Bool
-isStuck g ids s r = not (eqb (length (sequenceOf g ids s r)) (length (actionsOf g s r)))

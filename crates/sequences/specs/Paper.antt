@@ -6,7 +6,7 @@ use mathlib.Core.Bool.{not}
 use mathlib.Core.List.{List}
 use lib.Dec.{T}
 use lib.ListN.{length}
-use Rattle.basics.specs.Lists.{word}
+use Rattle.basics.specs.Lists.{word, member}
 use Rattle.grammar.specs.Limits.{mostAttributes}
 use Rattle.grammar.specs.Table.{kind, rightLength, symbolOf, occurrence, inheritedAt, defining, position, attribute}
 use Rattle.sets.specs.Visits.{highest, visitsFor, visitFor}
@@ -84,10 +84,8 @@ module _ (action : ℕ → Type 0) (after : ℕ → ℕ → Type 0) (out : List 
 abbrev pub Sequence : List ℕ → (ℕ → ℕ → ℕ) → ℕ → List ℕ → Type 0
 Sequence g set r out = TieRule (λ a. Belongs g set r (decode a)) (λ a b. Follows g set r (decode a) (decode b)) out
 
--- the sequence stops and an action of the rule stands nowhere in it
-pub record LeftOut (g : List ℕ) (set : ℕ → ℕ → ℕ) (r : ℕ) : Type 0 where
-  pub out : List ℕ
-  pub sequence : Sequence g set r out
+-- an action is ready: of these, which remain, it follows none
+pub record ReadyAmong (g : List ℕ) (set : ℕ → ℕ → ℕ) (r : ℕ) (remaining : List ℕ) : Type 0 where
   pub action : ℕ
-  pub belongs : Belongs g set r (decode action)
-  pub nowhere : ¬ DoneBefore out (length out) action
+  pub remains : T (member action remaining)
+  pub followsNone : (b : ℕ) → T (member b remaining) → ¬ Follows g set r (decode action) (decode b)
