@@ -50,7 +50,7 @@ compared : (a b : ℕ) → Compared a b
 compared a b =
     ⊎-elim lower (λ l. ⊎-elim higher (λ m. same (omega arith)) (below-or-not b a)) (below-or-not a b)
 
--- the refusal of a number and two places
+-- the refusal of a number and two places; a number that no refusal has is filled in
 rebuilt : ℕ → ℕ → ℕ → Refusal
 rebuilt k p o =
     getD

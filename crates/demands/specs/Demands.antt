@@ -93,7 +93,7 @@ pub record Demand2 (g : List ℕ) (answer : P.Planned) (rows′ plan′ : List �
   pub oneSequence : (o : IsOrdered g) (r : ℕ) → T (ruleCounts g r) → (s t : List ℕ) → Sequence g (o .set) r s → Sequence g (o .set) r t → s ≡ t
   -- an action is always ready: of any actions of a rule that remain, one follows none of them
   pub alwaysReady : (o : IsOrdered g) (r : ℕ) → T (ruleCounts g r) → (remaining : List ℕ) → 1 ≤ length remaining
-      → ((a : ℕ) → T (member a remaining) → Belongs g (o .set) r (decode a)) → ReadyAmong g (o .set) r remaining
+      → ((a : ℕ) → T (member a remaining) → Belongs g (o .set) r (decode a)) → (a : ℕ) × ReadyAmong g (o .set) r remaining a
   -- until the sequence is complete: it has all actions of the rule
   pub allActions : (o : IsOrdered g) (r : ℕ) → T (ruleCounts g r) → (out : List ℕ) → Sequence g (o .set) r out → (a : ℕ)
       → Belongs g (o .set) r (decode a) → DoneBefore out (length out) a

@@ -4,7 +4,7 @@
 use Prim.Native.Nat.{ℕ, suc, _≤_, _<_}
 use mathlib.Core.Path.{_≡_, refl, sym, _∙_, ap, subst, subst⁻¹}
 use mathlib.Core.Logic.{⊎-elim, _↔_}
-use mathlib.Core.List.{List}
+use mathlib.Core.List.{List, []}
 use native.Mathlib.Omega.{arith}
 use lib.Dec.{T, eqb→eq}
 use lib.ListN.{length}
@@ -52,7 +52,7 @@ use Rattle.sequences.proofs.FollowsLaws.{
   leave-after-compute,
   last-leave-after,
 }
-use Rattle.sequences.proofs.TieLaws.{ready-use}
+use Rattle.sequences.proofs.TieLaws.{may-ready}
 use Rattle.sequences.proofs.OrderlyRules.{Orderly}
 use Rattle.sequences.proofs.AlwaysReady.{always-ready}
 use Rattle.sequences.proofs.SequenceTie.{sequence-tie, sequence-one}
@@ -231,17 +231,16 @@ module _ (g : List ℕ) (good : readTable g ≡ Good) (o : IsOrdered g) (set : �
 
   -- of any actions of the rule that remain, one follows none of them
   pub paper-ready : (remaining : List ℕ) → 1 ≤ length remaining → ((a : ℕ) → T (member a remaining) → Belongs g set r (decode a))
-      → ReadyAmong g set r remaining
+      → (a : ℕ) × ReadyAmong g set r remaining a
   paper-ready remaining some belong =
       let w = always-ready g (idsOf g) (setsOf g (idsOf g)) r in-order remaining some
-      (λ a m. actions-member g (setsOf g (idsOf g)) r a (member-of a (belong a m))) in
-      record {
-        action = w .0;
-        remains = w .1;
-        followsNone = λ b m f.
-            ready-use (λ a b. follows g (idsOf g) (setsOf g (idsOf g)) r a b) remaining (w .0) (w .2) b m
-            (follows-same g good no-idp-cycle set sets r counts (w .0) b (member-of (w .0) (belong (w .0) (w .1))) (member-of b (belong b m)) .1 f);
-      }
+      (λ a m. actions-member g (setsOf g (idsOf g)) r a (member-of a (belong a m))) in (
+        w .0,
+        may-along (λ a. T (member a remaining)) (λ a. T (member a remaining)) (λ a b. T (follows g (idsOf g) (setsOf g (idsOf g)) r a b))
+            (λ a b. Follows g set r (decode a) (decode b)) [] (λ a m. m) (λ a m. m)
+            (λ a b m n. follows-same g good no-idp-cycle set sets r counts a b (member-of a (belong a m)) (member-of b (belong b n)) .1) 0 (w .0)
+            (may-ready (λ a b. follows g (idsOf g) (setsOf g (idsOf g)) r a b) remaining [] (w .0) (w .1) (w .2)),
+      )
 
   -- so every sequence has all actions of the rule
   pub all-actions : (out : List ℕ) → Sequence g set r out → (a : ℕ) → Belongs g set r (decode a) → DoneBefore out (length out) a

@@ -3,7 +3,7 @@
 use Prim.Native.Nat.{ℕ, suc, _≤_, _<_}
 use mathlib.Core.Path.{_≡_}
 use mathlib.Core.Bool.{not}
-use mathlib.Core.List.{List}
+use mathlib.Core.List.{List, []}
 use lib.Dec.{T}
 use lib.ListN.{length}
 use Rattle.basics.specs.Lists.{word, member}
@@ -84,8 +84,6 @@ module _ (action : ℕ → Type 0) (after : ℕ → ℕ → Type 0) (out : List 
 abbrev pub Sequence : List ℕ → (ℕ → ℕ → ℕ) → ℕ → List ℕ → Type 0
 Sequence g set r out = TieRule (λ a. Belongs g set r (decode a)) (λ a b. Follows g set r (decode a) (decode b)) out
 
--- an action is ready: of these, which remain, it follows none
-pub record ReadyAmong (g : List ℕ) (set : ℕ → ℕ → ℕ) (r : ℕ) (remaining : List ℕ) : Type 0 where
-  pub action : ℕ
-  pub remains : T (member action remaining)
-  pub followsNone : (b : ℕ) → T (member b remaining) → ¬ Follows g set r (decode action) (decode b)
+-- action a is ready where these are all that remain: by the tie rule it may be the next, so it is one of them and follows none of them
+abbrev pub ReadyAmong : List ℕ → (ℕ → ℕ → ℕ) → ℕ → List ℕ → ℕ → Type 0
+ReadyAmong g set r remaining a = May (λ b. T (member b remaining)) (λ b c. Follows g set r (decode b) (decode c)) [] 0 a
