@@ -1,17 +1,16 @@
 -- Adding the arcs from one set to another keeps the rows closed, inside the occurrences and below any transitive relation that has the
 -- arcs; it loses no path. Assumes nothing.
-use Prim.Native.Nat.{ℕ, _+_, _-_, _^_, _≤_, _<_}
-use mathlib.Core.Path.{_≡_, refl, sym, _∙_, ap, subst, subst⁻¹}
+use Prim.Native.Nat.{ℕ, _+_, _^_, _≤_, _<_}
+use mathlib.Core.Path.{_≡_, refl, sym, _∙_, subst, subst⁻¹}
 use mathlib.Core.Logic.{_⊎_, inl, inr, ⊎-elim}
 use mathlib.Core.Bool.{Bool, not}
 use mathlib.Core.List.{List}
 use native.Mathlib.Omega.{arith}
-use lib.Dec.{T, ltb, leb, eqb, leb→le, ltb→lt, le→leb, lt→ltb, eqb→eq, not-T, T-not}
+use lib.Dec.{T, eqb, eqb→eq, not-T, T-not}
 use lib.ListN.{length}
 use Rattle.bits.specs.Bit.{hasb}
 use Rattle.bits.proofs.MemberLaws.{hasb-below, hasb-collect, union-cases, union-left, union-right}
 use Rattle.bits.proofs.CollectLaws.{collect-lt}
-use Rattle.basics.specs.Tests.{_and_}
 use Rattle.basics.specs.Lists.{word}
 use Rattle.basics.proofs.TestLaws.{
   and-intro,
@@ -27,8 +26,8 @@ use Rattle.basics.proofs.TestLaws.{
   some-at,
   some-find,
 }
-use Rattle.basics.proofs.ListLaws.{length-tabulate, getD-tabulate}
-use Rattle.closing.specs.Rows.{leads, Kept, reaches, reachesSome, reachedFrom, connectedRow, rewritten, connected}
+use Rattle.closing.specs.Rows.{leads, Kept, reaches, reachesSome, reachedFrom, connectedRow, connected}
+use Rattle.closing.proofs.RewrittenLaws.{rewritten-length, rewritten-outside, rewritten-idle, rewritten-at}
 
 -- every member of a set is one of another
 abbrev pub Within : ℕ → ℕ → Type 0
@@ -41,20 +40,13 @@ Below rows base U = (o x : ℕ) → o < 64 → T (leads rows base o x) → U o x
 module _ (rows : List ℕ) (base among from to : ℕ) (k : Kept rows base among) (small : among < 2 ^ 64) (wf : Within from among)
     (wt : Within to among) where
   pub connected-length : length (connected rows base among from to) ≡ length rows
-  unfolding connected rewritten
-  connected-length = length-tabulate (length rows) _
+  unfolding connected
+  connected-length = rewritten-length rows base among _
 
   -- words outside the rule's rows stay
-  pub connected-outside : (j : ℕ) → (j < base) ⊎ (base + 64 ≤ j) → j < length rows
-      → word (connected rows base among from to) j ≡ word rows j
-  unfolding connected rewritten
-  connected-outside j out h =
-      getD-tabulate (length rows) _ 0 j h
-      ∙ passed-over (leb base j and ltb j (base + 64) and hasb (j - base) among) _ _
-      (not-T (leb base j and ltb j (base + 64) and hasb (j - base) among)
-      (λ t.
-      ⊎-elim (λ l. omega (arith, leb→le base j (and-left _ _ t)))
-      (λ l. omega (arith, ltb→lt j (base + 64) (and-left _ _ (and-right _ _ t)))) out))
+  pub connected-outside : (j : ℕ) → (j < base) ⊎ (base + 64 ≤ j) → word (connected rows base among from to) j ≡ word rows j
+  unfolding connected
+  connected-outside j out = rewritten-outside rows base among _ j out
 
   -- what reaches an occurrence is one, and what an occurrence reaches is one
   starts : (o a : ℕ) → o < 64 → T (hasb a among) → T (reaches rows base o a) → T (hasb o among)
@@ -115,21 +107,10 @@ module _ (rows : List ℕ) (base among from to : ℕ) (k : Kept rows base among)
 
   -- each row of the rule is the row with the arcs added
   connected-row : (o : ℕ) → o < 64 → word (connected rows base among from to) (base + o) ≡ connectedRow rows base from to o
-  unfolding connected rewritten connectedRow
+  unfolding connected connectedRow
   connected-row o h =
-      let back : base + o - base ≡ o = omega arith in
-      getD-tabulate (length rows) _ 0 (base + o) (omega (arith, k .room))
-      ∙ ⊎-elim
-      (λ t.
-      chosen (leb base (base + o) and ltb (base + o) (base + 64) and hasb (base + o - base) among) _ _
-      (and-intro _ _ (le→leb base (base + o) (omega arith))
-      (and-intro _ _ (lt→ltb (base + o) (base + 64) (omega arith)) (subst⁻¹ (λ (y : ℕ). T (hasb y among)) back t)))
-      ∙ ap (λ (y : ℕ). connectedRow rows base from to y) back)
-      (λ t.
-      passed-over (leb base (base + o) and ltb (base + o) (base + 64) and hasb (base + o - base) among) _ _
-      (not-T (leb base (base + o) and ltb (base + o) (base + 64) and hasb (base + o - base) among)
-      (λ s. T-not (hasb o among) t (subst (λ (y : ℕ). T (hasb y among)) back (and-right _ _ (and-right _ _ s)))))
-      ∙ sym (passed-over (reachesSome (word rows (base + o)) o from) _ _ (idle-row o h t)))
+      ⊎-elim (λ t. rewritten-at rows base among _ o h (k .room) t)
+      (λ t. rewritten-idle rows base among _ o t ∙ sym (passed-over (reachesSome (word rows (base + o)) o from) _ _ (idle-row o h t)))
       (tested (hasb o among))
 
   -- what a row leads to afterwards: what it led to, or what the new arcs join

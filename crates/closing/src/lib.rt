@@ -5,6 +5,7 @@ ghost use mathlib.Core.Bool.{cond};
 ghost use lib.ListN.{length};
 ghost use Rattle.bits.specs.Bit.{union, field, raised};
 ghost use Rattle.closing.specs.Rows as spec;
+ghost use Rattle.closing.specs.Closure as closure;
 
 // The members of a set and all that they lead to.
 fn reached_from(rows: &[u64], base: usize, set: u64) -> u64
@@ -43,6 +44,63 @@ pub fn connect(rows: &mut [u64], base: usize, among: u64, from: u64, to: u64)
         let o = bits::first(left);
         left = bits::rest(left);
         rows[base + o] = extended(rows[base + o], o, from, reached);
+    }
+}
+
+// A row with what m leads to, if the row leads to m.
+fn by(row: u64, m: usize, onward: u64) -> u64
+    requires { ⌜ m < 64 ⌝ }
+    ensures { λ r. ⌜ r ≡ closure.rowBy row m onward ⌝ }
+{
+    if bits::has(row, m) {
+        return bits::union(row, onward);
+    }
+    row
+}
+
+// The paths by way of one middle: each row of the set that leads to m gets what m leads to.
+fn pass(rows: &mut [u64], base: usize, among: u64, m: usize)
+    requires { ⌜ (base + 64 ≤ length (now rows)) × (m < 64) ⌝ }
+    ensures { λ _. ⌜ now (rows .exit) ≡ closure.passed (now (rows .entry)) base among m ⌝ }
+{
+    let onward = rows[base + m];
+    let mut left = among;
+    while left != 0 {
+        let o = bits::first(left);
+        left = bits::rest(left);
+        rows[base + o] = by(rows[base + o], m, onward);
+    }
+}
+
+// The members of a set that a path can go by way of: a member leads to them, and they lead on.
+fn inner(rows: &[u64], base: usize, among: u64) -> u64
+    requires { ⌜ base + 64 ≤ length (now rows) ⌝ }
+    ensures { λ r. ⌜ closure.Inner (now (rows .entry)) base among r ⌝ }
+{
+    let mut starts = 0;
+    let mut ends = 0;
+    let mut left = among;
+    while left != 0 {
+        let o = bits::first(left);
+        left = bits::rest(left);
+        let row = rows[base + o];
+        starts = bits::put(starts, o, row != 0);
+        ends = bits::union(ends, row);
+    }
+    bits::common(starts, ends)
+}
+
+// Closes the rows of a set in place, by one middle after the other. The middles are outermost, so that a path that was found by way of one may
+// go on by way of the next.
+pub fn close(rows: &mut [u64], base: usize, among: u64)
+    requires { ⌜ base + 64 ≤ length (now rows) ⌝ }
+    ensures { λ _. ⌜ closure.Closure (now (rows .entry)) base among (now (rows .exit)) ⌝ }
+{
+    let mut left = inner(rows, base, among);
+    while left != 0 {
+        let m = bits::first(left);
+        left = bits::rest(left);
+        pass(rows, base, among, m);
     }
 }
 

@@ -1,17 +1,17 @@
 -- Adding arcs: none, those from one set to another, and what was added in two parts is added.
 -- Assumes nothing.
 use Prim.Native.Nat.{ℕ, _+_, _*_, _-_, _/_, _^_, _≤_, _<_}
-use mathlib.Core.Path.{_≡_, refl, sym, _∙_, ap, subst, subst⁻¹}
+use mathlib.Core.Path.{_≡_, refl, _∙_, ap, subst, subst⁻¹}
 use mathlib.Core.Logic.{_⊎_, inl, inr, ⊎-elim}
 use mathlib.Core.List.{List}
 use native.Mathlib.Omega.{arith}
 use lib.Dec.{T, T-not, eqb→eq}
-use lib.ListN.{length, getD, List·getD-eq-default}
+use lib.ListN.{getD}
 use Rattle.bits.specs.Bit.{bit, hasb, single, field, raised, minus}
 use Rattle.bits.proofs.BitLaws.{bit-has, bit-single-same, bit-single-other}
 use Rattle.bits.proofs.MemberLaws.{none-left, hasb-below, minus-both, both-minus}
 use Rattle.basics.specs.Lists.{word}
-use Rattle.basics.proofs.TestLaws.{tested, true-T, same-or-not, below-or-not, below-suc}
+use Rattle.basics.proofs.TestLaws.{tested, true-T, same-or-not, below-suc}
 use Rattle.relations.specs.Paper.{Path⁺}
 use Rattle.relations.proofs.PathLaws.{path-join, path-into, path-map}
 use Rattle.closing.specs.Rows.{leads, connected, Kept}
@@ -48,12 +48,7 @@ module _ (before : List ℕ) (base among : ℕ) where
     connected-closes wf wt =
         record {
           size = connected-length before base among from to k small wf wt;
-          outside = λ j out.
-              ⊎-elim (λ l. connected-outside before base among from to k small wf wt j out l)
-              (λ l.
-              List·getD-eq-default (connected before base among from to) 0 {n = j}
-              (omega (arith, connected-length before base among from to k small wf wt))
-              ∙ sym (List·getD-eq-default before 0 {n = j} (omega arith))) (below-or-not j (length before));
+          outside = connected-outside before base among from to k small wf wt;
           kept = connected-kept before base among from to k small wf wt;
           keeps = connected-keeps before base among from to k small wf wt;
           has = λ a b e. connected-arc before base among from to k small wf wt a b (e .0) (e .1);

@@ -1,6 +1,7 @@
 pub mod RowLaws
 pub mod CycleLaws
 pub mod ClosesLaws
+pub mod MarkLaws
 pub mod FillLaws
 pub mod SpreadLaws
 pub mod RuleRowLaws

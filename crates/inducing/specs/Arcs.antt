@@ -26,14 +26,10 @@ pub record FunctionArc (g : List ℕ) (f n a b : ℕ) : Type 0 where
   pub argument : a ≡ word g (f + 2 + place)
   pub target : b ≡ word g f
 
--- a set of the first n arguments of the function at word f: the sources of its arcs
-pub record Sources (g : List ℕ) (f n from : ℕ) : Type 0 where
-  pub has : (a b : ℕ) → FunctionArc g f n a b → T (hasb a from)
-  pub sound : (a : ℕ) → T (hasb a from) → FunctionArc g f n a (word g f)
-
--- they have places in a set
-abbrev pub ArgumentsSmall : List ℕ → ℕ → Type 0
-ArgumentsSmall g f = (j : ℕ) → j < argumentsAt g f → word g (f + 2 + j) < 64
+-- its target and arguments have rows and places in a row
+pub record FunctionSmall (g : List ℕ) (f : ℕ) : Type 0 where
+  pub targetSmall : word g f < 64
+  pub argumentSmall : (j : ℕ) → j < argumentsAt g f → word g (f + 2 + j) < 64
 
 -- the rule at word p, its first n functions
 pub record RuleArc (g : List ℕ) (p n a b : ℕ) : Type 0 where
@@ -62,6 +58,10 @@ pub record Ruled (g : List ℕ) (p : ℕ) : Type 0 where
 -- its functions speak of occurrences
 abbrev pub FunctionsFit : List ℕ → ℕ → ℕ → Type 0
 FunctionsFit g p among = (k : ℕ) → k < functionsAt g p → FunctionFits g among (functionAt g p k)
+
+-- and have rows and places in a row
+abbrev pub FunctionsSmall : List ℕ → ℕ → Type 0
+FunctionsSmall g p = (k : ℕ) → k < functionsAt g p → FunctionSmall g (functionAt g p k)
 
 -- the arcs that its symbols have stand between occurrences
 abbrev pub ArcsFit : List ℕ → ℕ → ℕ → List ℕ → Type 0

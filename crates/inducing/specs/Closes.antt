@@ -15,6 +15,11 @@ use Rattle.closing.specs.Rows.{leads, Kept}
 abbrev pub Between : ℕ → ℕ → ℕ → ℕ → Type 0
 Between from to a b = T (hasb a from) × T (hasb b to)
 
+-- the one arc from a to b
+pub record Only (a b c d : ℕ) : Type 0 where
+  pub start : c ≡ a
+  pub end : d ≡ b
+
 -- the ends of each arc are occurrences
 abbrev pub Inside : ℕ → (ℕ → ℕ → Type 0) → Type 0
 Inside among arc = (a b : ℕ) → arc a b → T (hasb a among) × T (hasb b among)
@@ -31,6 +36,14 @@ pub record Closes (before : List ℕ) (base among : ℕ) (arc : ℕ → ℕ → 
   pub keeps : (o x : ℕ) → o < 64 → T (leads before base o x) → T (leads after base o x)
   pub has : (a b : ℕ) → arc a b → T (leads after base a b)
   pub sound : (o x : ℕ) → o < 64 → T (leads after base o x) → Path⁺ (Step before base arc) o x
+
+-- the rows after some arcs were marked in them: what they led to before, the arcs, and nothing else
+pub record Marked (before : List ℕ) (base : ℕ) (arc : ℕ → ℕ → Type 0) (after : List ℕ) : Type 0 where
+  pub size : length after ≡ length before
+  pub outside : (j : ℕ) → (j < base) ⊎ (base + 64 ≤ j) → word after j ≡ word before j
+  pub keeps : (o x : ℕ) → o < 64 → T (leads before base o x) → T (leads after base o x)
+  pub has : (a b : ℕ) → arc a b → (a < 64) × T (leads after base a b)
+  pub sound : (o x : ℕ) → o < 64 → T (leads after base o x) → T (leads before base o x) ⊎ arc o x
 
 -- arc k = 8a + b of a set of arcs, between attributes a and b at position i
 pub record ArcAt (i arcs c d : ℕ) : Type 0 where

@@ -5,7 +5,7 @@ ghost use mathlib.Core.Path.{_≡_};
 ghost use Prim.Native.Nat.{ℕ, _+_, _*_, _≤_, _<_};
 ghost use lib.ListN.{length};
 ghost use Rattle.closing.specs.Rows.{Kept};
-ghost use Rattle.inducing.specs.Closes.{Closes};
+ghost use Rattle.inducing.specs.Closes.{Closes, Marked, Only};
 ghost use Rattle.basics.specs.Lists.{word};
 ghost use Rattle.grammar.specs.declared.Verdict.the-variants as verdict;
 ghost use Rattle.grammar.specs.Reading.{readTable};
@@ -38,45 +38,51 @@ fn argument_count(words: &[u16], f: usize) -> usize
     access::argument_words(op)
 }
 
-// The arguments of the function at word f, as a set.
-fn sources(words: &[u16], f: usize) -> u64
-    requires { ⌜ f < 1000000 ⌝ }
-    requires { ⌜ said.ArgumentsSmall (now words) f ⌝ }
-    ensures { λ r. ⌜ said.Sources (now (words .entry)) f (said.argumentsAt (now (words .entry)) f) r ⌝ }
+// Marks the arc from a to b.
+fn mark(rows: &mut [u64], base: usize, a: usize, b: usize)
+    requires { ⌜ (base + 64 ≤ length (now rows)) × ((a < 64) × (b < 64)) ⌝ }
+    ensures { λ _. ⌜ Marked (now (rows .entry)) base (Only a b) (now (rows .exit)) ⌝ }
 {
-    let count = argument_count(words, f);
-    let mut from = 0;
-    for j in 0..count {
-        from = bits::with(from, access::word(words, f + 2 + j));
-    }
-    from
+    rows[base + a] = bits::with(rows[base + a], b);
 }
 
-// The arcs of the function at word f: from each of its arguments to its target.
-fn fill_function(words: &[u16], f: usize, rows: &mut [u64], base: usize, among: u64)
+// Marks the arcs of the function at word f: from each of its arguments to its target.
+fn mark_function(words: &[u16], f: usize, rows: &mut [u64], base: usize)
     requires { ⌜ (f < 1000000) × (base + 64 ≤ length (now rows)) ⌝ }
-    requires { ⌜ said.FunctionFits (now words) among f ⌝ }
-    requires { ⌜ Kept (now rows) base among ⌝ }
-    ensures { λ _. ⌜ Closes (now (rows .entry)) base among (said.FunctionArc (now (words .entry)) f (said.argumentsAt (now (words .entry)) f)) (now (rows .exit)) ⌝ }
+    requires { ⌜ said.FunctionSmall (now words) f ⌝ }
+    ensures { λ _. ⌜ Marked (now (rows .entry)) base (said.FunctionArc (now (words .entry)) f (said.argumentsAt (now (words .entry)) f)) (now (rows .exit)) ⌝ }
 {
     let target = access::word(words, f);
-    let from = sources(words, f);
-    super::join(rows, base, among, from, bits::single(target));
+    let count = argument_count(words, f);
+    for j in 0..count {
+        let a = access::word(words, f + 2 + j);
+        mark(rows, base, a, target);
+    }
 }
 
-// The arcs of the functions of the rule at word p.
+// Marks those of all functions of the rule at word p.
+fn mark_rule(words: &[u16], p: usize, rows: &mut [u64], base: usize)
+    requires { ⌜ (p < 65536) × (table.functionsAt (now words) p ≤ 64) × (base + 64 ≤ length (now rows)) ⌝ }
+    requires { ⌜ said.FunctionsSmall (now words) p ⌝ }
+    ensures { λ _. ⌜ Marked (now (rows .entry)) base (said.RuleArc (now (words .entry)) p (table.functionsAt (now (words .entry)) p)) (now (rows .exit)) ⌝ }
+{
+    let count = access::function_count(words, p);
+    let mut f = access::first_function(words, p);
+    for k in 0..count {
+        mark_function(words, f, rows, base);
+        f = access::next_function(words, f);
+    }
+}
+
+// The paths over them and over what the rows had: the rule is closed once, as a whole.
 fn fill_rule(words: &[u16], p: usize, rows: &mut [u64], base: usize, among: u64)
     requires { ⌜ (p < 65536) × (table.functionsAt (now words) p ≤ 64) × (base + 64 ≤ length (now rows)) ⌝ }
     requires { ⌜ said.FunctionsFit (now words) p among ⌝ }
     requires { ⌜ Kept (now rows) base among ⌝ }
     ensures { λ _. ⌜ Closes (now (rows .entry)) base among (said.RuleArc (now (words .entry)) p (table.functionsAt (now (words .entry)) p)) (now (rows .exit)) ⌝ }
 {
-    let count = access::function_count(words, p);
-    let mut f = access::first_function(words, p);
-    for k in 0..count {
-        fill_function(words, f, rows, base, among);
-        f = access::next_function(words, f);
-    }
+    mark_rule(words, p, rows, base);
+    closing::close(rows, base, among);
 }
 
 // DP of rule r, closed.

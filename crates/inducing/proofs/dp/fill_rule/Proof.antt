@@ -1,59 +1,21 @@
--- The invariant: f is the word at which function k starts, and the arcs of the functions before it are added.
-use Prim.Native.Nat.{_≤_, _-_}
+-- The functions speak of occurrences, so the arcs that are marked lie between these, and so do all paths.
 use borrow.Author.Needs.{needs}
-use Rattle.inducing.proofs.FillLaws.{FillingRule, rule-start, rule-turn, rule-finish, function-fits}
+use Rattle.inducing.proofs.MarkLaws.{marked-closes}
+use Rattle.inducing.proofs.FillLaws.{functions-small, functions-inside}
 use Rattle.inducing.proofs.dp.fill_rule.Statement.{statement}
 use Rattle.inducing.proofs.dp.fill_rule.Tie as tie
 
-abbrev Inv-loop : tie.InvT-loop
-Inv-loop words p rows₀ base among count f₀ k₀ rows f k = (k ≤ count) × FillingRule words p rows₀ base among k f rows
+mark-rule-requires : tie.Need-mark-rule-requires
+mark-rule-requires c κs = (search needs, search functions-small)
 
-abbrev μ-loop : tie.MeasureT-loop
-μ-loop words p rows₀ base among count f₀ k₀ rows f k = count - k
+close-requires : tie.Need-close-requires
+close-requires c κs = search needs
 
-function-count-requires : tie.Need-function-count-requires Inv-loop μ-loop
-function-count-requires c κs = search needs
-
-first-function-requires : tie.Need-first-function-requires Inv-loop μ-loop
-first-function-requires c κs = search needs
-
-loop-holds : tie.Need-loop-holds Inv-loop μ-loop
-loop-holds c = (search needs, search rule-start)
-
-fill-function-requires : tie.Need-fill-function-requires Inv-loop μ-loop
-fill-function-requires c κs = search (function-fits, needs)
-
-next-function-requires : tie.Need-next-function-requires Inv-loop μ-loop
-next-function-requires c κs = search needs
-
-add-k : tie.Need-add-k Inv-loop μ-loop
-add-k c = search needs
-
-loop-less : tie.Need-loop-less Inv-loop μ-loop
-loop-less c = search needs
-
-loop-again : tie.Need-loop-again Inv-loop μ-loop
-loop-again c = (search needs, search (rule-turn, needs))
-
-same-length : tie.Need-same-length Inv-loop μ-loop
+same-length : tie.Need-same-length
 same-length c = search needs
 
-returns : tie.Need-returns Inv-loop μ-loop
-returns c = search rule-finish
+returns : tie.Need-returns
+returns c = search (marked-closes, functions-inside)
 
 pub fill-rule-spec : {M : Type 1} → statement M
-fill-rule-spec =
-    tie.close
-    (tie.spec
-    Inv-loop
-    μ-loop
-    function-count-requires
-    first-function-requires
-    loop-holds
-    fill-function-requires
-    next-function-requires
-    add-k
-    loop-less
-    loop-again
-    same-length
-    returns)
+fill-rule-spec = tie.close (tie.spec mark-rule-requires close-requires same-length returns)

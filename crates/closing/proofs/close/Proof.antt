@@ -1,0 +1,55 @@
+-- The invariant: paths meet at each middle that is no longer left. They meet from the start where nothing goes by way of a member.
+use borrow.Author.Needs.{needs}
+use Rattle.closing.proofs.RewriteLaws.{rest-less}
+use Rattle.closing.proofs.ClosureLaws.{Closing, closing-start, closing-turn, closing-finish}
+use Rattle.closing.proofs.close.Statement.{statement}
+use Rattle.closing.proofs.close.Tie as tie
+
+abbrev Inv-loop : tie.InvT-loop
+Inv-loop rows₀ base among left₀ rows left = Closing rows₀ base among left rows
+
+abbrev μ-loop : tie.MeasureT-loop
+μ-loop rows₀ base among left₀ rows left = left
+
+inner-requires : tie.Need-inner-requires Inv-loop μ-loop
+inner-requires c κs = search needs
+
+loop-holds : tie.Need-loop-holds Inv-loop μ-loop
+loop-holds c = search closing-start
+
+first-requires : tie.Need-first-requires Inv-loop μ-loop
+first-requires c κs = search needs
+
+rest-requires : tie.Need-rest-requires Inv-loop μ-loop
+rest-requires c κs = search needs
+
+pass-requires : tie.Need-pass-requires Inv-loop μ-loop
+pass-requires c κs = search needs
+
+loop-less : tie.Need-loop-less Inv-loop μ-loop
+loop-less c = search rest-less
+
+loop-again : tie.Need-loop-again Inv-loop μ-loop
+loop-again c = search closing-turn
+
+same-length : tie.Need-same-length Inv-loop μ-loop
+same-length c = search needs
+
+returns : tie.Need-returns Inv-loop μ-loop
+returns c = search closing-finish
+
+pub close-spec : {M : Type 1} → statement M
+close-spec =
+    tie.close
+    (tie.spec
+    Inv-loop
+    μ-loop
+    inner-requires
+    loop-holds
+    first-requires
+    rest-requires
+    pass-requires
+    loop-less
+    loop-again
+    same-length
+    returns)

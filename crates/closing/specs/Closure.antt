@@ -1,0 +1,48 @@
+-- The closure of some rows of a rule, in place: one middle after the other, each row that leads to the middle gets what the middle
+-- leads to. For proofs of the code: no demand rests on it. Assumes nothing.
+use Prim.Native.Nat.{ℕ, _+_, _≤_, _<_}
+use mathlib.Core.Path.{_≡_}
+use mathlib.Core.Logic.{_⊎_}
+use mathlib.Core.Bool.{cond, not}
+use mathlib.Core.List.{List}
+use lib.Dec.{T}
+use lib.ListN.{length}
+use Rattle.bits.specs.Bit.{hasb, union}
+use Rattle.basics.specs.Lists.{word}
+use Rattle.relations.specs.Paper.{Path⁺}
+use Rattle.closing.specs.Rows.{leads, rewritten}
+
+-- a row with the paths by way of m, which leads onward to some
+unfoldable pub rowBy : ℕ → ℕ → ℕ → ℕ
+rowBy row m onward = cond (hasb m row) (union row onward) row
+
+-- the rows of a set with the paths by way of m
+unfoldable pub passed : List ℕ → ℕ → ℕ → ℕ → List ℕ
+passed rows base among m = rewritten rows base among (λ o. rowBy (word rows (base + o)) m (word rows (base + m)))
+
+-- an arc of the rows
+abbrev pub Arc : List ℕ → ℕ → ℕ → ℕ → Type 0
+Arc rows base c d = (c < 64) × T (leads rows base c d)
+
+-- one that starts at a member of a set
+abbrev pub ArcOf : List ℕ → ℕ → ℕ → ℕ → ℕ → Type 0
+ArcOf rows base among c d = T (hasb c among) × T (leads rows base c d)
+
+-- every arc does
+abbrev pub Starts : List ℕ → ℕ → ℕ → Type 0
+Starts rows base among = (o x : ℕ) → o < 64 → T (leads rows base o x) → T (hasb o among)
+
+-- the members of a set that a path can go by way of: a member leads to them, and their rows are not empty
+pub record Inner (rows : List ℕ) (base among inner : ℕ) : Type 0 where
+  pub within : (m : ℕ) → T (hasb m inner) → T (hasb m among)
+  pub arrives : (m : ℕ) → T (hasb m inner) → (o : ℕ) × ArcOf rows base among o m
+  pub onward : (m : ℕ) → T (hasb m inner) → word rows (base + m) ≡ 0 → ⊥
+  pub has : (o m x : ℕ) → ArcOf rows base among o m → ArcOf rows base among m x → T (hasb m inner)
+
+-- The rows of a set closed: a member's row has bit x exactly if a path of arcs that start at members leads from it to x. Every other word stays.
+pub record Closure (before : List ℕ) (base among : ℕ) (after : List ℕ) : Type 0 where
+  pub size : length after ≡ length before
+  pub outside : (j : ℕ) → (j < base) ⊎ (base + 64 ≤ j) → word after j ≡ word before j
+  pub idle : (o : ℕ) → T (not (hasb o among)) → word after (base + o) ≡ word before (base + o)
+  pub sound : (o x : ℕ) → T (hasb o among) → T (leads after base o x) → Path⁺ (ArcOf before base among) o x
+  pub has : (o x : ℕ) → Path⁺ (ArcOf before base among) o x → T (leads after base o x)
