@@ -9,9 +9,10 @@ use native.Mathlib.Nat.{mod-lt}
 use lib.Dec.{T, eqb, eqb→eq, T-not}
 use lib.Pow.{pow-pos}
 use Rattle.basics.proofs.TestLaws.{true-T, T-true, false-T, same-or-not, below-or-not}
-use Rattle.bits.specs.Bit.{bit, number, hasb, collect, insert, remove, union, common, minus}
+use Rattle.bits.specs.Bit.{bit, number, hasb, collect, insert, remove, union, common, minus, lowest}
 use Rattle.bits.proofs.BitLaws.{bit-above, bit-cases, bit-ext, bits-ext, bit-has, bit-lacks, bit-le, bit-of-zero, has-bit, number-hasb}
 use Rattle.bits.proofs.CollectLaws.{bit-collect}
+use Rattle.bits.proofs.LowestLaws.{lowest-lt, bit-lowest}
 use Rattle.bits.proofs.ShiftLaws.{bit-cut, bit-cut-above}
 use Rattle.bits.proofs.SetLaws.{bit-union, bit-common, bit-minus, bit-insert-same, bit-insert-other, bit-remove-same, bit-remove-other}
 
@@ -70,7 +71,7 @@ insert-old x i s h =
     ⊎-elim (λ e. subst⁻¹ (λ (y : ℕ). T (hasb y (insert i s))) e (insert-new i s))
     (λ n. true-T _ (bit-has x (insert i s) (bit-insert-other i x s n ∙ has-bit x s (T-true _ h)))) (same-or-not x i)
 
--- what is taken out is no member, the others stay, and the empty set has none
+-- what is taken out is no member, the others stay, the empty set has none, and every other set has one
 pub has-not : (i s : ℕ) → T (not (hasb i (remove i s)))
 has-not i s = false-T _ (bit-lacks i (remove i s) (bit-remove-same i s))
 
@@ -79,6 +80,10 @@ has-other i j s h = ap (λ (x : ℕ). eqb x 1) (bit-remove-other i j s h)
 
 pub none-left : (i : ℕ) → T (not (hasb i 0))
 none-left i = false-T _ (bit-lacks i 0 (bit-of-zero i))
+
+pub some-member : (w s : ℕ) → s < 2 ^ w → (s ≡ 0 → ⊥) → (i : ℕ) × (i < w) × T (hasb i s)
+some-member w s h n =
+    let p : 0 < s = omega arith in (lowest w s, lowest-lt w s h p, true-T _ (bit-has (lowest w s) s (bit-lowest w s h p)))
 
 -- a member of what two sets share is one of both, and of what one lacks of the other is one of the first alone
 pub common-both : (a s t : ℕ) → T (hasb a (common s t)) → T (hasb a s) × T (hasb a t)

@@ -6,7 +6,7 @@ use mathlib.Core.Logic.{_⊎_, inl, inr, ⊎-elim}
 use mathlib.Core.Bool.{Bool, true, false, cond, not}
 use mathlib.Core.List.{List}
 use native.Mathlib.Omega.{arith}
-use lib.Dec.{T, T-not}
+use lib.Dec.{T}
 use lib.ListN.{length, set}
 use Rattle.bits.specs.Bit.{hasb, union, remove, lowest, First}
 use Rattle.bits.proofs.BitLaws.{bit-has}
@@ -17,7 +17,7 @@ use Rattle.basics.proofs.TestLaws.{chosen, passed-over, tested, true-T}
 use Rattle.relations.specs.Paper.{Path⁺}
 use Rattle.relations.proofs.PathLaws.{path-join, path-map, path-first}
 use Rattle.closing.specs.Rows.{leads}
-use Rattle.closing.specs.Closure.{rowBy, passed, Arc, ArcOf, Starts, Inner, Closure}
+use Rattle.closing.specs.Closure.{rowBy, passed, Arc, ArcOf, Starts, Meeting, Closure}
 use Rattle.closing.proofs.RewriteLaws.{Rewriting, rewriting-start, next-same, turn, finish, still, gone}
 use Rattle.closing.proofs.RewrittenLaws.{rewritten-length, rewritten-outside, rewritten-idle, rewritten-at}
 
@@ -72,7 +72,7 @@ module _ (entry : List ℕ) (base among m onward : ℕ) where
 module _ (rows : List ℕ) (base among m : ℕ) (small : among < 2 ^ 64) (room : base + 64 ≤ length rows) (o x : ℕ) (member : T (hasb o among)) where
   row-is : word (passed rows base among m) (base + o) ≡ rowBy (word rows (base + o)) m (word rows (base + m))
   unfolding passed
-  row-is = rewritten-at rows base among _ o (hasb-below 64 o among small member) room member
+  row-is = let h = hasb-below 64 o among small member in rewritten-at rows base among _ o h (omega arith) member
 
   passed-cases : T (leads (passed rows base among m) base o x) → T (leads rows base o x) ⊎ (T (leads rows base o m) × T (leads rows base m x))
   unfolding leads rowBy
@@ -114,9 +114,8 @@ pub record Closing (before : List ℕ) (base among left : ℕ) (rows : List ℕ)
       → T (leads rows base o x)
 
 module _ (before : List ℕ) (base among : ℕ) where
-  -- where nothing goes by way of a member, no paths are to meet there
-  pub closing-start : (left : ℕ) → base + 64 ≤ length before → Inner before base among left → Closing before base among left before
-  closing-start left h w =
+  pub closing-start : (middles : ℕ) → base + 64 ≤ length before → Meeting before base among middles → Closing before base among middles before
+  closing-start middles h w =
       record {
         room = h;
         size = refl;
@@ -125,7 +124,7 @@ module _ (before : List ℕ) (base among : ℕ) where
         within = w .within;
         keeps = λ o x i t. t;
         sound = λ o x i t. Path⁺.one (i, t);
-        meets = λ o j x io ij n s t. absurd (T-not (hasb j left) n (w .has o j x (io, s) (ij, t)));
+        meets = λ o j x io ij n s t. w .meets o j x n (io, s) (ij, t);
       }
 
   pub closing-turn : (rows : List ℕ) (left m next : ℕ) (after : List ℕ) → Closing before base among left rows → among < 2 ^ 64 → First left m

@@ -22,7 +22,7 @@ use Rattle.bits.proofs.MemberLaws.{
 use Rattle.basics.specs.Lists.{word}
 use Rattle.basics.proofs.TestLaws.{chosen, passed-over, tested, true-T, eq-T}
 use Rattle.closing.specs.Rows.{leads}
-use Rattle.closing.specs.Closure.{ArcOf, Inner}
+use Rattle.closing.specs.Closure.{ArcOf, Meeting, Inner}
 use Rattle.closing.proofs.RewriteLaws.{still, gone}
 
 -- The invariant of the loop: the members with a row that is not empty, and all that members lead to, as far as they are no longer left.
@@ -111,3 +111,8 @@ module _ (rows : List ℕ) (base among : ℕ) where
 
       all : (o : ℕ) → T (not (hasb o left))
       all o = subst⁻¹ (λ (n : ℕ). T (not (hasb o n))) e (none-left o)
+
+-- paths meet at every member that none goes by way of
+pub inner-meeting : (rows : List ℕ) (base among middles : ℕ) → Inner rows base among middles → Meeting rows base among middles
+inner-meeting rows base among middles w =
+    record { within = w .within; meets = λ o j x n s t. absurd (T-not (hasb j middles) n (w .has o j x s t)) }

@@ -1,7 +1,6 @@
 pub mod RewriteLaws
 pub mod RewrittenLaws
-pub mod ConnectLaws
-pub mod ClosedLaws
+pub mod ReachLaws
 pub mod InnerLaws
 pub mod ClosureLaws
 pub mod GatherLaws

@@ -46,10 +46,10 @@ module _ (rows : List ℕ) (base among : ℕ) (f : ℕ → ℕ) where
   rewritten-idle o n =
       stays (base + o) (λ t. T-not (hasb o among) n (subst (λ (y : ℕ). T (hasb y among)) (back o) (and-right _ _ (and-right _ _ t))))
 
-  pub rewritten-at : (o : ℕ) → o < 64 → base + 64 ≤ length rows → T (hasb o among) → word (rewritten rows base among f) (base + o) ≡ f o
+  pub rewritten-at : (o : ℕ) → o < 64 → base + o < length rows → T (hasb o among) → word (rewritten rows base among f) (base + o) ≡ f o
   unfolding rewritten
   rewritten-at o h room t =
-      getD-tabulate (length rows) _ 0 (base + o) (omega arith)
+      getD-tabulate (length rows) _ 0 (base + o) room
       ∙ (chosen (written (base + o)) _ _
       (and-intro _ _ (le→leb base (base + o) (omega arith))
       (and-intro _ _ (lt→ltb (base + o) (base + 64) (omega arith)) (subst⁻¹ (λ (y : ℕ). T (hasb y among)) (back o) t)))

@@ -32,6 +32,11 @@ ArcOf rows base among c d = T (hasb c among) × T (leads rows base c d)
 abbrev pub Starts : List ℕ → ℕ → ℕ → Type 0
 Starts rows base among = (o x : ℕ) → o < 64 → T (leads rows base o x) → T (hasb o among)
 
+-- paths within a set meet at each member of it that is no middle: what leads to it leads to all that it leads to
+pub record Meeting (rows : List ℕ) (base among middles : ℕ) : Type 0 where
+  pub within : (m : ℕ) → T (hasb m middles) → T (hasb m among)
+  pub meets : (o j x : ℕ) → T (not (hasb j middles)) → ArcOf rows base among o j → ArcOf rows base among j x → T (leads rows base o x)
+
 -- the members of a set that a path can go by way of: a member leads to them, and their rows are not empty
 pub record Inner (rows : List ℕ) (base among inner : ℕ) : Type 0 where
   pub within : (m : ℕ) → T (hasb m inner) → T (hasb m among)

@@ -1,16 +1,15 @@
-// Relations in lent rows, kept closed: the functions addarctrans and addarcinduce of 000, section 7.
+// Relations in lent rows: arcs are added and the rows closed in place. Together they are the function addarctrans of 000, section 7.
 ghost use mathlib.Core.Path.{_≡_};
 ghost use Prim.Native.Nat.{_+_, _≤_, _<_};
-ghost use mathlib.Core.Bool.{cond};
 ghost use lib.ListN.{length};
-ghost use Rattle.bits.specs.Bit.{union, field, raised};
+ghost use Rattle.bits.specs.Bit.{field, raised};
 ghost use Rattle.closing.specs.Rows as spec;
 ghost use Rattle.closing.specs.Closure as closure;
 
 // The members of a set and all that they lead to.
 fn reached_from(rows: &[u64], base: usize, set: u64) -> u64
     requires { ⌜ base + 64 ≤ length (now rows) ⌝ }
-    ensures { λ r. ⌜ r ≡ spec.reachedFrom (now (rows .entry)) base set ⌝ }
+    ensures { λ r. ⌜ spec.Reached (now (rows .entry)) base set r ⌝ }
 {
     let mut reached = set;
     let mut left = set;
@@ -22,29 +21,13 @@ fn reached_from(rows: &[u64], base: usize, set: u64) -> u64
     reached
 }
 
-// Row o with all that is `reached` from its new arcs, if o is a member of `from` or leads to one.
-fn extended(row: u64, o: usize, from: u64, reached: u64) -> u64
-    requires { ⌜ o < 64 ⌝ }
-    ensures { λ r. ⌜ r ≡ cond (spec.reachesSome row o from) (union row reached) row ⌝ }
-{
-    if bits::common(bits::with(row, o), from) == 0 {
-        return row;
-    }
-    bits::union(row, reached)
-}
-
-// Adds the arcs from each member of `from` to each member of `to`, and all that they join. Only the rows of the occurrences are looked at.
-pub fn connect(rows: &mut [u64], base: usize, among: u64, from: u64, to: u64)
-    requires { ⌜ base + 64 ≤ length (now rows) ⌝ }
-    ensures { λ _. ⌜ now (rows .exit) ≡ spec.connected (now (rows .entry)) base among from to ⌝ }
+// Adds the arcs from o to each member of `to`, and those from o to all that they lead to.
+pub fn extend(rows: &mut [u64], base: usize, o: usize, to: u64)
+    requires { ⌜ (base + 64 ≤ length (now rows)) × (o < 64) ⌝ }
+    ensures { λ _. ⌜ spec.Extended (now (rows .entry)) base o to (now (rows .exit)) ⌝ }
 {
     let reached = reached_from(rows, base, to);
-    let mut left = among;
-    while left != 0 {
-        let o = bits::first(left);
-        left = bits::rest(left);
-        rows[base + o] = extended(rows[base + o], o, from, reached);
-    }
+    rows[base + o] = bits::union(rows[base + o], reached);
 }
 
 // A row with what m leads to, if the row leads to m.
@@ -73,7 +56,7 @@ fn pass(rows: &mut [u64], base: usize, among: u64, m: usize)
 }
 
 // The members of a set that a path can go by way of: a member leads to them, and they lead on.
-fn inner(rows: &[u64], base: usize, among: u64) -> u64
+pub fn inner(rows: &[u64], base: usize, among: u64) -> u64
     requires { ⌜ base + 64 ≤ length (now rows) ⌝ }
     ensures { λ r. ⌜ closure.Inner (now (rows .entry)) base among r ⌝ }
 {
@@ -91,12 +74,13 @@ fn inner(rows: &[u64], base: usize, among: u64) -> u64
 }
 
 // Closes the rows of a set in place, by one middle after the other. The middles are outermost, so that a path that was found by way of one may
-// go on by way of the next.
-pub fn close(rows: &mut [u64], base: usize, among: u64)
+// go on by way of the next. Members at which paths meet already need not be middles.
+pub fn close(rows: &mut [u64], base: usize, among: u64, middles: u64)
     requires { ⌜ base + 64 ≤ length (now rows) ⌝ }
+    requires { ⌜ closure.Meeting (now rows) base among middles ⌝ }
     ensures { λ _. ⌜ closure.Closure (now (rows .entry)) base among (now (rows .exit)) ⌝ }
 {
-    let mut left = inner(rows, base, among);
+    let mut left = middles;
     while left != 0 {
         let m = bits::first(left);
         left = bits::rest(left);

@@ -111,7 +111,7 @@ module _ (entry : List ℕ) (base : ℕ) (g : List ℕ) (p : ℕ) where
         starts = q ∙ (ap (λ (i : ℕ). i + 2 + argumentWords (word g (i + 1))) (v .starts) ∙ ap (functionAt g p) (sym (add-one k)));
         near = omega (arith, v .near);
         room = v .room;
-        size = u .size ∙ v .size;
+        size = u .grown .size ∙ v .size;
         marks = marked-then entry base rows after (RuleArc g p k) (FunctionArc g f (argumentsAt g f)) (RuleArc g p (k + 1)) (v .marks) u
             (λ c d s.
             ⊎-elim (λ i. inl (record { function = s .function; functionFits = i; arc = s .arc }))

@@ -25,7 +25,7 @@ use Rattle.inducing.specs.Closes.{Closes}
 use Rattle.inducing.specs.Arcs.{RuleArc}
 use Rattle.inducing.specs.Rules.{occurrencesOf, Holds, Frame, Filled}
 use Rattle.inducing.proofs.RuleRowLaws.{dp-arc, arc-dp, dp-small}
-use Rattle.inducing.proofs.ClosesLaws.{closes-same}
+use Rattle.inducing.proofs.GrownLaws.{closes-same}
 use Rattle.inducing.proofs.HoldsLaws.{frame-none, frame-then, frame-turn, holds-lower, holds-turn}
 
 pub idp-trans : (g : List ℕ) (r a b c : ℕ) → IDP⁺ g r a b → IDP⁺ g r b c → IDP⁺ g r a c

@@ -10,13 +10,12 @@ use lib.Dec.{T, T-not, not-T}
 use lib.ListN.{length, getD, set, length-set}
 use lib.Seq.{getD-set-same, getD-set-other}
 use Rattle.bits.specs.Bit.{hasb, union, minus}
-use Rattle.bits.proofs.MemberLaws.{none-left, union-cases, union-left, union-right, minus-both, both-minus}
+use Rattle.bits.proofs.MemberLaws.{none-left, some-member, union-cases, union-left, union-right, minus-both, both-minus}
 use Rattle.basics.specs.Lists.{word}
 use Rattle.basics.proofs.TestLaws.{tested, below-suc, same-or-not}
 use Rattle.grammar.specs.Table.{attributes, lengthAt}
 use Rattle.access.specs.ByPlace.{symbolFrom}
 use Rattle.closing.specs.Rows.{arcsAt}
-use Rattle.closing.proofs.ConnectLaws.{some-member}
 use Rattle.inducing.specs.Stale.{Added, AddedAt, Gathering}
 
 -- no arc is new: each stands there already, and nobody is touched
@@ -52,7 +51,7 @@ added-new x arcs names ids new v e z fits h l m =
       touches = λ k q t s. inr s;
       only = λ q t. t;
       new = λ q t.
-          let a = some-member new fits z in
+          let a = some-member 64 new fits z in
           record {
             arc = a .0;
             lacked = minus-both (a .0) arcs (word ids x) (subst (λ (n : ℕ). T (hasb (a .0) n)) e (a .2)) .1;

@@ -44,14 +44,14 @@ pub rows-other : (rows after : List ℕ) (q among : ℕ) (arc : ℕ → ℕ → 
     → (r o x : ℕ) → (r ≡ q → ⊥) → o < 64 → leads after (64 * r) o x ≡ leads rows (64 * r) o x
 rows-other rows after q among arc u r o x d m =
     same-leads rows after (64 * r) o x
-    (u .outside (64 * r + o)
+    (u .grown .outside (64 * r + o)
     (⊎-elim (λ l. inl (omega arith)) (λ l. ⊎-elim (λ k. inr (omega arith)) (λ k. absurd (d (omega arith))) (below-or-not q r)) (below-or-not r q)))
 
 pub rows-keep : (rows after : List ℕ) (q among : ℕ) (arc : ℕ → ℕ → Type 0) → Closes rows (64 * q) among arc after
     → (r a b : ℕ) → a < 64 → T (leads rows (64 * r) a b) → T (leads after (64 * r) a b)
 rows-keep rows after q among arc u r a b m t =
     ⊎-elim
-    (λ e. subst⁻¹ (λ (n : ℕ). T (leads after (64 * n) a b)) e (u .keeps a b m (subst (λ (n : ℕ). T (leads rows (64 * n) a b)) e t)))
+    (λ e. subst⁻¹ (λ (n : ℕ). T (leads after (64 * n) a b)) e (u .grown .keeps a b m (subst (λ (n : ℕ). T (leads rows (64 * n) a b)) e t)))
     (λ d. subst⁻¹ (λ (c : Bool). T c) (rows-other rows after q among arc u r a b d m) t) (same-or-not r q)
 
 pub frame-none : (g rows : List ℕ) → Frame g rows rows
@@ -62,7 +62,7 @@ frame-then g before mid after v w = record { size = w .size ∙ v .size; rest = 
 
 pub frame-turn : (g : List ℕ) (rows after : List ℕ) (q among : ℕ) (arc : ℕ → ℕ → Type 0) → q < rules g → Closes rows (64 * q) among arc after
     → Frame g rows after
-frame-turn g rows after q among arc h w = record { size = w .size; rest = λ j l. w .outside j (inr (omega arith)) }
+frame-turn g rows after q among arc h w = record { size = w .grown .size; rest = λ j l. w .grown .outside j (inr (omega arith)) }
 
 -- another relation that the rows have
 pub holds-lower : (g : List ℕ) (lower other upper : ℕ → ℕ → ℕ → Type 0) (rows : List ℕ) → Holds g lower upper rows
@@ -77,21 +77,21 @@ module _ (g : List ℕ) (lower more upper : ℕ → ℕ → ℕ → Type 0) (tra
       → Holds g more upper after
   holds-turn w h u inside split =
       record {
-        room = omega (arith, w .room, u .size);
+        room = omega (arith, w .room, u .grown .size);
         kept = λ r l.
             ⊎-elim (λ e. subst⁻¹ (λ (n : ℕ). Kept after (64 * n) (occurrencesOf g n)) e (u .kept))
-            (λ d. same-kept rows after (64 * r) (occurrencesOf g r) (w .kept r l) (omega (arith, w .room, u .size)) (λ o x m. rows-other rows after q (occurrencesOf g q) arc u r o x d m))
+            (λ d. same-kept rows after (64 * r) (occurrencesOf g r) (w .kept r l) (omega (arith, w .room, u .grown .size)) (λ o x m. rows-other rows after q (occurrencesOf g q) arc u r o x d m))
             (same-or-not r q);
         has = λ r a b l d.
             ⊎-elim (λ s. let t = w .has r a b l s in (t .0, rows-keep rows after q (occurrencesOf g q) arc u r a b (t .0) (t .1)))
-            (λ s. (s .1, subst⁻¹ (λ (n : ℕ). T (leads after (64 * n) a b)) (s .0) (u .has a b (s .2)))) (split r a b l d);
+            (λ s. (s .1, subst⁻¹ (λ (n : ℕ). T (leads after (64 * n) a b)) (s .0) (u .grown .has a b (s .2) .1))) (split r a b l d);
         within = λ r o x l m t.
             ⊎-elim
             (λ e.
             subst⁻¹ (λ (n : ℕ). upper n o x) e
             (path-closed (trans q)
             (path-map (λ c d s. ⊎-elim (λ f. w .within q c d h (f .0) (f .1)) (λ f. inside c d f) s)
-            (u .sound o x m (subst (λ (n : ℕ). T (leads after (64 * n) o x)) e t)))))
+            (u .grown .sound o x m (subst (λ (n : ℕ). T (leads after (64 * n) o x)) e t)))))
             (λ d. w .within r o x l m (subst (λ (b : Bool). T b) (rows-other rows after q (occurrencesOf g q) arc u r o x d m) t)) (same-or-not r q);
       }
 

@@ -1,8 +1,9 @@
 pub mod RowLaws
 pub mod CycleLaws
-pub mod ClosesLaws
+pub mod GrownLaws
 pub mod MarkLaws
 pub mod FillLaws
+pub mod JoinLaws
 pub mod SpreadLaws
 pub mod RuleRowLaws
 pub mod HoldsLaws

@@ -119,7 +119,7 @@ module _ (g : List ℕ) (good : readTable g ≡ Good) where
     own n =
         record {
           spreads = λ i k b t.
-              v .has (8 * i + k / 8) (8 * i + k % 8)
+              v .grown .has (8 * i + k / 8) (8 * i + k % 8)
               (record {
                 place = i;
                 placeFits = omega arith;
@@ -129,7 +129,8 @@ module _ (g : List ℕ) (good : readTable g ≡ Good) where
                   start = refl;
                   end = refl;
                 };
-              });
+              })
+              .1;
           gathers = λ i k b t.
               subst (λ (x : ℕ). T (hasb k (word after x))) (symbol-same g r i)
               (y .has i k (omega arith) (subst⁻¹ (λ (x : ℕ). T (hasb k (arcsAt mid (64 * r) i (attributes g x)))) (symbol-same g r i) t));

@@ -6,19 +6,20 @@ use mathlib.Core.Logic.{inl, inr, ⊎-elim}
 use mathlib.Core.Bool.{Bool}
 use mathlib.Core.List.{List}
 use native.Mathlib.Omega.{arith}
-use lib.Dec.{T}
+use lib.Dec.{T, T-not}
 use lib.ListN.{getD}
 use Rattle.bits.specs.Bit.{hasb}
-use Rattle.bits.proofs.MemberLaws.{hasb-below}
+use Rattle.bits.proofs.MemberLaws.{hasb-below, none-left}
 use Rattle.basics.specs.Lists.{word}
 use Rattle.basics.proofs.TestLaws.{below-suc, and-right}
 use Rattle.grammar.specs.Table.{attributes, lengthAt}
 use Rattle.access.specs.ByPlace.{symbolFrom}
 use Rattle.closing.specs.Rows.{leads, arcsAt, Kept}
 use Rattle.closing.proofs.GatherLaws.{arc-at, arcs-lt}
-use Rattle.inducing.specs.Closes.{Closes, ArcAt, Ends}
+use Rattle.closing.specs.Closure.{Meeting}
+use Rattle.inducing.specs.Closes.{Inside, Joined, ArcAt}
 use Rattle.inducing.specs.Arcs.{SpreadArc, Ruled, ArcsFit}
-use Rattle.inducing.proofs.ClosesLaws.{closes-none, closes-then}
+use Rattle.inducing.proofs.JoinLaws.{joined-there, joined-then}
 
 -- an arc that is gathered at a position: it starts at an attribute there, and the rows lead along it
 pub arc-leads : (rows : List ℕ) (base i count k : ℕ) → T (hasb k (arcsAt rows base i count)) → T (leads rows base (8 * i + k / 8) (8 * i + k % 8))
@@ -39,36 +40,43 @@ module _ (g : List ℕ) (p : ℕ) (w : Ruled g p) (i : ℕ) (h : i ≤ lengthAt 
 pub position-inside : (g : List ℕ) (p n i : ℕ) → n ≡ lengthAt g p → i < n + 1 → i ≤ lengthAt g p
 position-inside g p n i e h = omega arith
 
-module _ (entry : List ℕ) (base among : ℕ) (g : List ℕ) (p : ℕ) (arcs : List ℕ) where
-  pub spread-start : Kept entry base among → Closes entry base among (SpreadArc g p arcs 0) entry
-  spread-start k = closes-none entry base among (SpreadArc g p arcs 0) k (λ a b s. let h = s .placeFits in omega arith)
+module _ (entry : List ℕ) (base : ℕ) (g : List ℕ) (p : ℕ) (arcs : List ℕ) where
+  pub spread-start : Joined entry 0 base (SpreadArc g p arcs 0) entry 0
+  spread-start = joined-there entry 0 base (SpreadArc g p arcs 0) (λ a b s. absurd (let h = s .placeFits in omega arith))
 
-  -- the ends of the arcs of the symbol at a position are occurrences
-  pub symbol-ends : ArcsFit g p among arcs → (i x : ℕ) → i ≤ lengthAt g p → x ≡ symbolFrom g p i → Ends among i (getD arcs x 0)
-  symbol-ends f i x h q = subst⁻¹ (λ (y : ℕ). Ends among i (word arcs y)) q (f i h)
+  pub spread-here : (set more : ℕ) (after : List ℕ) (i x : ℕ) → x ≡ symbolFrom g p i → Joined entry set base (ArcAt i (getD arcs x 0)) after more
+      → Joined entry set base (ArcAt i (word arcs (symbolFrom g p i))) after more
+  spread-here set more after i x q v = subst (λ (y : ℕ). Joined entry set base (ArcAt i (word arcs y)) after more) q v
 
-  pub spread-here : (after : List ℕ) (i x : ℕ) → x ≡ symbolFrom g p i → Closes entry base among (ArcAt i (getD arcs x 0)) after
-      → Closes entry base among (ArcAt i (word arcs (symbolFrom g p i))) after
-  spread-here after i x q v = subst (λ (y : ℕ). Closes entry base among (ArcAt i (word arcs y)) after) q v
-
-  pub spread-turn : (rows : List ℕ) (n i : ℕ) (after : List ℕ) → ArcsFit g p among arcs → n ≡ lengthAt g p → i < n + 1 → among < 2 ^ 64
-      → Closes entry base among (SpreadArc g p arcs i) rows → Closes rows base among (ArcAt i (word arcs (symbolFrom g p i))) after
-      → Closes entry base among (SpreadArc g p arcs (i + 1)) after
-  spread-turn rows n i after f e h fits v u =
-      closes-then entry base among rows after (SpreadArc g p arcs i) (ArcAt i (word arcs (symbolFrom g p i))) (SpreadArc g p arcs (i + 1)) v u
+  pub spread-turn : (rows : List ℕ) (i more most : ℕ) (after : List ℕ) → Joined entry 0 base (SpreadArc g p arcs i) rows more
+      → Joined rows more base (ArcAt i (word arcs (symbolFrom g p i))) after most → Joined entry 0 base (SpreadArc g p arcs (i + 1)) after most
+  spread-turn rows i more most after v u =
+      joined-then entry 0 base rows after more most (SpreadArc g p arcs i) (ArcAt i (word arcs (symbolFrom g p i))) (SpreadArc g p arcs (i + 1)) v u
       (λ c d s.
-      ⊎-elim (λ l. inl (small c d s, v .has c d (record { place = s .place; placeFits = l; arc = s .arc })))
+      ⊎-elim (λ l. inl (record { place = s .place; placeFits = l; arc = s .arc }))
       (λ l. inr (subst (λ (j : ℕ). ArcAt j (word arcs (symbolFrom g p j)) c d) l (s .arc)))
       (below-suc (s .place) i (omega (arith, s .placeFits))))
       (λ c d s. record { place = s .place; placeFits = omega (arith, s .placeFits); arc = s .arc })
       (λ c d s. record { place = i; placeFits = omega arith; arc = s })
-    where
-      small : (c d : ℕ) → SpreadArc g p arcs (i + 1) c d → c < 64
-      small c d s =
-          hasb-below 64 c among fits
-          (subst⁻¹ (λ (o : ℕ). T (hasb o among)) (s .arc .start) (f (s .place) (omega (arith, s .placeFits)) (s .arc .number) (s .arc .member) .0))
 
-  pub spread-finish : (rows : List ℕ) (n i : ℕ) → Closes entry base among (SpreadArc g p arcs i) rows → n ≡ lengthAt g p → i ≤ n + 1 → n + 1 ≤ i
-      → Closes entry base among (SpreadArc g p arcs (lengthAt g p + 1)) rows
-  spread-finish rows n i v e h l =
-      let q : i ≡ lengthAt g p + 1 = omega arith in subst (λ (j : ℕ). Closes entry base among (SpreadArc g p arcs j) rows) q v
+  pub spread-finish : (rows : List ℕ) (n i more : ℕ) → Joined entry 0 base (SpreadArc g p arcs i) rows more → n ≡ lengthAt g p → i ≤ n + 1 → n + 1 ≤ i
+      → Joined entry 0 base (SpreadArc g p arcs (lengthAt g p + 1)) rows more
+  spread-finish rows n i more v e h l =
+      let q : i ≡ lengthAt g p + 1 = omega arith in subst (λ (j : ℕ). Joined entry 0 base (SpreadArc g p arcs j) rows more) q v
+
+  -- the ends of the arcs of the symbols are occurrences
+  pub spread-inside : (among : ℕ) → ArcsFit g p among arcs → Inside among (SpreadArc g p arcs (lengthAt g p + 1))
+  spread-inside among f c d s =
+      let t = f (s .place) (omega (arith, s .placeFits)) (s .arc .number) (s .arc .member) in
+      (subst⁻¹ (λ (o : ℕ). T (hasb o among)) (s .arc .start) (t .0), subst⁻¹ (λ (o : ℕ). T (hasb o among)) (s .arc .end) (t .1))
+
+-- Arcs between occurrences that are added to closed rows: paths meet at every occurrence but those from which arcs start.
+pub joined-meeting : (before : List ℕ) (base among : ℕ) (arc : ℕ → ℕ → Type 0) (after : List ℕ) (starts : ℕ) → Kept before base among → among < 2 ^ 64
+    → Inside among arc → Joined before 0 base arc after starts → Meeting after base among starts
+joined-meeting before base among arc after starts k small inside w =
+    record {
+      within = λ o t.
+          ⊎-elim (λ s. absurd (T-not (hasb o 0) (none-left o) s)) (λ s. inside o (s .0) (s .1) .0) (w .starts o t);
+      meets = λ o j x n s t.
+          w .met (λ c i y hc hi l p q. k .closed c i y hc hi p q) o j x (hasb-below 64 o among small (s .0)) (hasb-below 64 j among small (t .0)) n (s .1) (t .1);
+    }

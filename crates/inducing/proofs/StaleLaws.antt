@@ -14,7 +14,7 @@ use Rattle.bits.specs.Bit as sets
 use Rattle.bits.proofs.BitLaws.{bit-has, bit-below, bit-of-zero}
 use Rattle.bits.proofs.SetLaws.{bit-union}
 use Rattle.bits.proofs.CountLaws.{count-le, count-ext, count-remove}
-use Rattle.bits.proofs.MemberLaws.{none-left, has-other, hasb-below, union-cases, union-left, union-right, minus-both}
+use Rattle.bits.proofs.MemberLaws.{none-left, some-member, has-other, hasb-below, union-cases, union-left, union-right, minus-both}
 use Rattle.basics.specs.Tests.{count}
 use Rattle.basics.specs.Lists.{word}
 use Rattle.basics.proofs.TestLaws.{true-T, same-or-not, count-more}
@@ -24,7 +24,6 @@ use Rattle.grammar.specs.Table.{rules}
 use Rattle.grammar.specs.Reading.{readTable}
 use Rattle.grammar.proofs.AcceptedTable.{accepted}
 use Rattle.access.specs.Offsets.{offsetsFor, RuleOf}
-use Rattle.closing.proofs.ConnectLaws.{some-member}
 use Rattle.inducing.specs.Rules.{Induced, Arcs}
 use Rattle.inducing.specs.Stale.{NewArc, Fresh, Naming, Refreshed, Stale, Chosen, Upward, fromThere, fromBelow}
 use Rattle.inducing.proofs.ClearLaws.{zero-words}
@@ -156,7 +155,7 @@ stale-less g good naming rows ids after out stale r touched next c u fits m =
     count-ext 64 next (remove r stale) (λ j l. omega (arith, ap (bit j) m, bit-union j (remove r stale) touched, ap (bit j) z, bit-of-zero j)) in
     omega (arith, same, count-remove 64 r stale (c .small), c .member, arcs-grow g good rows ids after out (u .standing .arcs) (u .grows)))
     (λ z.
-    let q = some-member touched fits z in
+    let q = some-member 64 touched fits z in
     let y = u .reason (q .0) (q .2) in
     omega (arith, count-le 64 next, arcs-more g good rows ids after out (u .standing .arcs) (u .grows) (y .symbol) (y .new), arcs-most g good rows ids after out (u .standing .arcs) (u .grows)))
     (same-or-not touched 0)

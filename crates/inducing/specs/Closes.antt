@@ -3,6 +3,7 @@
 use Prim.Native.Nat.{ℕ, _+_, _*_, _/_, _%_, _≤_, _<_}
 use mathlib.Core.Path.{_≡_}
 use mathlib.Core.Logic.{_⊎_}
+use mathlib.Core.Bool.{not}
 use mathlib.Core.List.{List}
 use lib.Dec.{T}
 use lib.ListN.{length}
@@ -10,10 +11,6 @@ use Rattle.bits.specs.Bit.{hasb}
 use Rattle.basics.specs.Lists.{word}
 use Rattle.relations.specs.Paper.{Path⁺}
 use Rattle.closing.specs.Rows.{leads, Kept}
-
--- the arcs from each member of one set to each member of another
-abbrev pub Between : ℕ → ℕ → ℕ → ℕ → Type 0
-Between from to a b = T (hasb a from) × T (hasb b to)
 
 -- the one arc from a to b
 pub record Only (a b c d : ℕ) : Type 0 where
@@ -28,22 +25,35 @@ Inside among arc = (a b : ℕ) → arc a b → T (hasb a among) × T (hasb b amo
 abbrev pub Step : List ℕ → ℕ → (ℕ → ℕ → Type 0) → ℕ → ℕ → Type 0
 Step rows base arc c d = ((c < 64) × T (leads rows base c d)) ⊎ arc c d
 
--- the rows after some arcs were added to those before: closed, between the occurrences, nothing lost, every arc there, nothing but paths
-pub record Closes (before : List ℕ) (base among : ℕ) (arc : ℕ → ℕ → Type 0) (after : List ℕ) : Type 0 where
-  pub size : length after ≡ length before
-  pub outside : (j : ℕ) → (j < base) ⊎ (base + 64 ≤ j) → word after j ≡ word before j
-  pub kept : Kept after base among
-  pub keeps : (o x : ℕ) → o < 64 → T (leads before base o x) → T (leads after base o x)
-  pub has : (a b : ℕ) → arc a b → T (leads after base a b)
-  pub sound : (o x : ℕ) → o < 64 → T (leads after base o x) → Path⁺ (Step before base arc) o x
-
--- the rows after some arcs were marked in them: what they led to before, the arcs, and nothing else
-pub record Marked (before : List ℕ) (base : ℕ) (arc : ℕ → ℕ → Type 0) (after : List ℕ) : Type 0 where
+-- the rows after some arcs were added to those before: nothing lost, every arc there, nothing but paths
+pub record Grown (before : List ℕ) (base : ℕ) (arc : ℕ → ℕ → Type 0) (after : List ℕ) : Type 0 where
   pub size : length after ≡ length before
   pub outside : (j : ℕ) → (j < base) ⊎ (base + 64 ≤ j) → word after j ≡ word before j
   pub keeps : (o x : ℕ) → o < 64 → T (leads before base o x) → T (leads after base o x)
   pub has : (a b : ℕ) → arc a b → (a < 64) × T (leads after base a b)
-  pub sound : (o x : ℕ) → o < 64 → T (leads after base o x) → T (leads before base o x) ⊎ arc o x
+  pub sound : (o x : ℕ) → o < 64 → T (leads after base o x) → Path⁺ (Step before base arc) o x
+
+-- closed, and between the occurrences: every path is there
+pub record Closes (before : List ℕ) (base among : ℕ) (arc : ℕ → ℕ → Type 0) (after : List ℕ) : Type 0 where
+  pub grown : Grown before base arc after
+  pub kept : Kept after base among
+
+-- not closed yet: the arcs alone were added
+pub record Marked (before : List ℕ) (base : ℕ) (arc : ℕ → ℕ → Type 0) (after : List ℕ) : Type 0 where
+  pub grown : Grown before base arc after
+  pub only : (o x : ℕ) → o < 64 → T (leads after base o x) → T (leads before base o x) ⊎ arc o x
+
+-- paths meet at every number but the members of a set
+abbrev pub Met : List ℕ → ℕ → ℕ → Type 0
+Met rows base set =
+    (o j x : ℕ) → o < 64 → j < 64 → T (not (hasb j set)) → T (leads rows base o j) → T (leads rows base j x) → T (leads rows base o x)
+
+-- not closed yet: the arcs were added with what they lead on to, so that paths meet wherever they met but where arcs start. A set has the
+-- numbers at which they may not meet. How many paths are there already is not said.
+pub record Joined (before : List ℕ) (set base : ℕ) (arc : ℕ → ℕ → Type 0) (after : List ℕ) (more : ℕ) : Type 0 where
+  pub grown : Grown before base arc after
+  pub met : Met before base set → Met after base more
+  pub starts : (o : ℕ) → T (hasb o more) → T (hasb o set) ⊎ ((x : ℕ) × arc o x)
 
 -- arc k = 8a + b of a set of arcs, between attributes a and b at position i
 pub record ArcAt (i arcs c d : ℕ) : Type 0 where

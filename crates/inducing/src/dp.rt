@@ -82,7 +82,8 @@ fn fill_rule(words: &[u16], p: usize, rows: &mut [u64], base: usize, among: u64)
     ensures { λ _. ⌜ Closes (now (rows .entry)) base among (said.RuleArc (now (words .entry)) p (table.functionsAt (now (words .entry)) p)) (now (rows .exit)) ⌝ }
 {
     mark_rule(words, p, rows, base);
-    closing::close(rows, base, among);
+    let middles = closing::inner(rows, base, among);
+    closing::close(rows, base, among, middles);
 }
 
 // DP of rule r, closed.

@@ -10,7 +10,7 @@ ghost use Prim.Native.Nat.{_+_, _*_, _≤_, _<_};
 ghost use lib.ListN.{length};
 ghost use Rattle.closing.specs.Rows.{Kept};
 ghost use Rattle.inducing.specs.Cycles.{cycleIn};
-ghost use Rattle.inducing.specs.Closes.{Between, Inside, Closes, ArcAt, ArcOut, Ends};
+ghost use Rattle.inducing.specs.Closes.{Closes, Joined, ArcAt, ArcOut};
 ghost use Rattle.bits.specs.Bit as sets;
 ghost use Rattle.basics.specs.Lists.{word, padded};
 ghost use Rattle.grammar.specs.declared.Verdict.the-variants as verdict;
@@ -22,7 +22,6 @@ ghost use Rattle.grammar.specs.Limits.{rowWords};
 ghost use Rattle.relations.specs.Computed.{idsOf};
 ghost use Rattle.plans.specs.Buffers.{over, rowsOf};
 ghost use Rattle.plans.specs.Answer.{idpPaths};
-ghost use Rattle.inducing.specs.Rules as rules;
 ghost use Rattle.inducing.specs.Arcs as said;
 
 // Where a cycle lies: the rule and the occurrence.
@@ -48,21 +47,6 @@ pub fn find_cycle(rows: &[u64], rules: usize) -> Cycle
     found
 }
 
-// Adds the arcs from each member of `from` to each member of `to`: an addition looks at every row, so none is made where there are no arcs.
-fn join(rows: &mut [u64], base: usize, among: u64, from: u64, to: u64)
-    requires { ⌜ Kept (now rows) base among ⌝ }
-    requires { ⌜ Inside among (Between from to) ⌝ }
-    ensures { λ _. ⌜ Closes (now (rows .entry)) base among (Between from to) (now (rows .exit)) ⌝ }
-{
-    if from == 0 {
-        return;
-    }
-    if to == 0 {
-        return;
-    }
-    closing::connect(rows, base, among, from, to);
-}
-
 // Of the arcs of a set, in which 8a + b is the arc from attribute a to attribute b, those from attribute a: where they lead at position i, as far
 // as the row does not lead there already.
 fn missing(row: u64, i: usize, arcs: u64, a: usize) -> u64
@@ -73,54 +57,68 @@ fn missing(row: u64, i: usize, arcs: u64, a: usize) -> u64
     bits::minus(targets, row)
 }
 
-// Adds those.
-fn induce_from(rows: &mut [u64], base: usize, among: u64, i: usize, arcs: u64, a: usize)
+// Adds those with all that they lead on to, and puts the occurrence from which they start to a set, if there are any.
+fn join_from(rows: &mut [u64], base: usize, i: usize, arcs: u64, a: usize, starts: u64) -> u64
     requires { ⌜ (base + 64 ≤ length (now rows)) × ((i < 8) × (a < 8)) ⌝ }
-    requires { ⌜ Kept (now rows) base among ⌝ }
-    requires { ⌜ Ends among i arcs ⌝ }
-    ensures { λ _. ⌜ Closes (now (rows .entry)) base among (ArcOut i arcs a) (now (rows .exit)) ⌝ }
+    ensures { λ more. ⌜ Joined (now (rows .entry)) starts base (ArcOut i arcs a) (now (rows .exit)) more ⌝ }
 {
     let o = 8 * i + a;
     let to = missing(rows[base + o], i, arcs, a);
-    join(rows, base, among, bits::single(o), to);
+    if to == 0 {
+        return starts;
+    }
+    closing::extend(rows, base, o, to);
+    bits::with(starts, o)
 }
 
-// Adds the arcs of a set at position i: attribute by attribute, up to the highest that has arcs.
-fn induce_at(rows: &mut [u64], base: usize, among: u64, i: usize, arcs: u64)
+// The same for the arcs from every attribute, up to the highest that has some.
+fn join_at(rows: &mut [u64], base: usize, i: usize, arcs: u64, starts: u64) -> u64
     requires { ⌜ (base + 64 ≤ length (now rows)) × (i < 8) ⌝ }
-    requires { ⌜ Kept (now rows) base among ⌝ }
-    requires { ⌜ Ends among i arcs ⌝ }
-    ensures { λ _. ⌜ Closes (now (rows .entry)) base among (ArcAt i arcs) (now (rows .exit)) ⌝ }
+    ensures { λ more. ⌜ Joined (now (rows .entry)) starts base (ArcAt i arcs) (now (rows .exit)) more ⌝ }
 {
+    let mut more = starts;
     for a in 0..8usize {
         if arcs < bits::single(8 * a) {
-            return;
+            return more;
         }
-        induce_from(rows, base, among, i, arcs, a);
+        more = join_from(rows, base, i, arcs, a, more);
     }
+    more
 }
 
-// Adds at position i of the rule at word p the arcs that the symbol there has.
-fn spread_at(
+// The same at position i of the rule at word p, for the arcs that the symbol there has.
+fn join_symbol(
     words: &[u16],
     p: usize,
     i: usize,
     rows: &mut [u64],
     base: usize,
-    among: u64,
     arcs: &[u64; 32],
-)
+    starts: u64,
+) -> u64
     requires { ⌜ (base + 64 ≤ length (now rows)) × (i ≤ table.lengthAt (now words) p) ⌝ }
     requires { ⌜ said.Ruled (now words) p ⌝ }
-    requires { ⌜ said.ArcsFit (now words) p among (now arcs) ⌝ }
-    requires { ⌜ Kept (now rows) base among ⌝ }
-    ensures { λ _. ⌜ Closes (now (rows .entry)) base among (ArcAt i (word (now (arcs .entry)) (symbolFrom (now (words .entry)) p i))) (now (rows .exit)) ⌝ }
+    ensures { λ more. ⌜ Joined (now (rows .entry)) starts base (ArcAt i (word (now (arcs .entry)) (symbolFrom (now (words .entry)) p i))) (now (rows .exit)) more ⌝ }
 {
     let x = access::symbol_of(words, p, i);
-    induce_at(rows, base, among, i, arcs[x]);
+    join_at(rows, base, i, arcs[x], starts)
 }
 
 // The same at each of its positions.
+fn join_symbols(words: &[u16], p: usize, rows: &mut [u64], base: usize, arcs: &[u64; 32]) -> u64
+    requires { ⌜ base + 64 ≤ length (now rows) ⌝ }
+    requires { ⌜ said.Ruled (now words) p ⌝ }
+    ensures { λ starts. ⌜ Joined (now (rows .entry)) 0 base (said.SpreadArc (now (words .entry)) p (now (arcs .entry)) (table.lengthAt (now (words .entry)) p + 1)) (now (rows .exit)) starts ⌝ }
+{
+    let n = access::right_length(words, p);
+    let mut starts = 0;
+    for i in 0..n + 1 {
+        starts = join_symbol(words, p, i, rows, base, arcs, starts);
+    }
+    starts
+}
+
+// Adds to a closed rule the arcs that its symbols have, and closes it again: only over the occurrences from which new arcs start.
 pub fn spread(words: &[u16], p: usize, rows: &mut [u64], base: usize, among: u64, arcs: &[u64; 32])
     requires { ⌜ base + 64 ≤ length (now rows) ⌝ }
     requires { ⌜ said.Ruled (now words) p ⌝ }
@@ -128,10 +126,8 @@ pub fn spread(words: &[u16], p: usize, rows: &mut [u64], base: usize, among: u64
     requires { ⌜ Kept (now rows) base among ⌝ }
     ensures { λ _. ⌜ Closes (now (rows .entry)) base among (said.SpreadArc (now (words .entry)) p (now (arcs .entry)) (table.lengthAt (now (words .entry)) p + 1)) (now (rows .exit)) ⌝ }
 {
-    let n = access::right_length(words, p);
-    for i in 0..n + 1 {
-        spread_at(words, p, i, rows, base, among, arcs);
-    }
+    let starts = join_symbols(words, p, rows, base, arcs);
+    closing::close(rows, base, among, starts);
 }
 
 // Steps 1 and 2: the rows get the paths of IDP, and the answer is IDS of every symbol.

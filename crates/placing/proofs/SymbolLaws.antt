@@ -2,12 +2,12 @@
 -- bits that are left. What a set takes by its bits is what the definition takes. Assumes nothing.
 use Prim.Native.Nat.{ℕ, suc, _+_, _*_, _-_, _%_, _^_, _≤_, _<_}
 use mathlib.Core.Path.{_≡_, refl, sym, _∙_, ap, subst, subst⁻¹}
-use mathlib.Core.Logic.{_⊎_, ⊎-elim}
+use mathlib.Core.Logic.{_⊎_, inl, inr, ⊎-elim}
 use mathlib.Core.Bool.{Bool, cond, not}
 use mathlib.Core.List.{List}
 use native.Mathlib.Omega.{arith}
-use lib.Dec.{T, ltb, leb, eqb, ltb→lt, lt→ltb, leb→le, le→leb, eqb→eq, T-not, not-T}
-use lib.ListN.{length, List·getD-eq-default}
+use lib.Dec.{T, eqb, ltb→lt, lt→ltb, eqb→eq, T-not, not-T}
+use lib.ListN.{length}
 use lib.Pow.{pow-pos, pow-mono}
 use Rattle.bits.specs.Bit.{hasb, common, minus, field, below}
 use Rattle.bits.proofs.BitLaws.{bit-has, has-bit, bit-below}
@@ -16,7 +16,7 @@ use Rattle.bits.proofs.CollectLaws.{collect-lt}
 use Rattle.bits.proofs.ShiftLaws.{bit-cut, field-lt, has-field}
 use Rattle.bits.proofs.MemberLaws.{hasb-collect, hasb-below, hasb-ext, none-left, common-both, both-common, minus-both, both-minus}
 use Rattle.basics.specs.Tests.{_and_, _implies_, all}
-use Rattle.basics.specs.Lists.{word, tabulate}
+use Rattle.basics.specs.Lists.{word}
 use Rattle.basics.proofs.TestLaws.{
   and-intro,
   and-left,
@@ -40,8 +40,8 @@ use Rattle.relations.specs.Computed.{arcIn}
 use Rattle.sets.specs.Paper.{ofClass}
 use Rattle.sets.specs.Computed.{takes, placedUpTo, unplaced}
 use Rattle.sets.proofs.Placing.{one-step, none-at-first}
-use Rattle.basics.proofs.ListLaws.{length-tabulate, getD-tabulate}
 use Rattle.closing.specs.Rows.{rewritten}
+use Rattle.closing.proofs.RewrittenLaws.{rewritten-length, rewritten-outside, rewritten-idle, rewritten-at}
 use Rattle.placing.specs.SymbolSets.{stays, takenFrom, numbered, classOf}
 
 -- the set of a symbol's attributes
@@ -178,38 +178,22 @@ pub record PlacedTo (g ids : List ℕ) (x : ℕ) (entry : List ℕ) (at k : ℕ)
 -- the words where a set's number is written, and the others
 numbered-word : (sets : List ℕ) (at taken k a : ℕ) → at + 8 ≤ length sets → a < 8 → taken < 2 ^ 8
     → word (numbered sets at taken k) (at + a) ≡ cond (hasb a taken) k (word sets (at + a))
-unfolding numbered rewritten
+unfolding numbered
 numbered-word sets at taken k a h l f =
-    let back : at + a - at ≡ a = omega arith in
-    getD-tabulate (length sets) _ 0 (at + a) (omega arith)
-    ∙ ap (λ (b : Bool). cond b k (word sets (at + a)))
-    (same-test (leb at (at + a) and ltb (at + a) (at + 64) and hasb (at + a - at) taken) (hasb a taken)
-    (λ t. subst (λ (y : ℕ). T (hasb y taken)) back (and-right _ _ (and-right _ _ t)))
-    (λ t.
-    and-intro _ _ (le→leb at (at + a) (omega arith))
-    (and-intro _ _ (lt→ltb (at + a) (at + 64) (omega arith)) (subst⁻¹ (λ (y : ℕ). T (hasb y taken)) back t))))
+    ⊎-elim (λ t. rewritten-at sets at taken (λ i. k) a (omega arith) (omega arith) t ∙ sym (chosen (hasb a taken) _ _ t))
+    (λ t. rewritten-idle sets at taken (λ i. k) a t ∙ sym (passed-over (hasb a taken) _ _ t)) (tested (hasb a taken))
 
 numbered-other : (sets : List ℕ) (at taken k j : ℕ) → taken < 2 ^ 8 → (j < at) ⊎ (at + 8 ≤ j) → word (numbered sets at taken k) j ≡ word sets j
-unfolding numbered rewritten
-numbered-other sets at taken k j f out =
-    ⊎-elim
-    (λ h.
-    getD-tabulate (length sets) _ 0 j h
-    ∙ passed-over (leb at j and ltb j (at + 64) and hasb (j - at) taken) _ _
-    (not-T (leb at j and ltb j (at + 64) and hasb (j - at) taken)
-    (λ t.
-    let low : at ≤ j = leb→le at j (and-left _ _ t) in
-    let high : j - at < 8 = hasb-below 8 (j - at) taken f (and-right _ _ (and-right _ _ t)) in
-    ⊎-elim (λ l. omega arith) (λ l. omega arith) out)))
-    (λ h.
-    List·getD-eq-default (tabulate (length sets) (λ j. cond (leb at j and ltb j (at + 64) and hasb (j - at) taken) k (word sets j))) 0
-    (omega (arith, length-tabulate (length sets) (λ j. cond (leb at j and ltb j (at + 64) and hasb (j - at) taken) k (word sets j))))
-    ∙ sym (List·getD-eq-default sets 0 h))
-    (below-or-not j (length sets))
+unfolding numbered
+numbered-other sets at taken k j f (inl l) = rewritten-outside sets at taken (λ i. k) j (inl l)
+numbered-other sets at taken k j f (inr l) =
+    let there : at + (j - at) ≡ j = omega arith in
+    subst (λ (i : ℕ). word (rewritten sets at taken (λ a. k)) i ≡ word sets i) there
+    (rewritten-idle sets at taken (λ i. k) (j - at) (not-T (hasb (j - at) taken) (λ t. omega (arith, hasb-below 8 (j - at) taken f t))))
 
 pub length-numbered : (sets : List ℕ) (at taken k : ℕ) → length (numbered sets at taken k) ≡ length sets
-unfolding numbered rewritten
-length-numbered sets at taken k = length-tabulate (length sets) _
+unfolding numbered
+length-numbered sets at taken k = rewritten-length sets at taken (λ a. k)
 
 -- what a set takes is below 256
 pub taken-lt : (arcs left class : ℕ) → left < 2 ^ 8 → takenFrom arcs left class < 2 ^ 8

@@ -1,4 +1,4 @@
--- The invariant: paths meet at each middle that is no longer left. They meet from the start where nothing goes by way of a member.
+-- The invariant: paths meet at each member that is no longer left.
 use borrow.Author.Needs.{needs}
 use Rattle.closing.proofs.RewriteLaws.{rest-less}
 use Rattle.closing.proofs.ClosureLaws.{Closing, closing-start, closing-turn, closing-finish}
@@ -6,13 +6,10 @@ use Rattle.closing.proofs.close.Statement.{statement}
 use Rattle.closing.proofs.close.Tie as tie
 
 abbrev Inv-loop : tie.InvT-loop
-Inv-loop rows₀ base among left₀ rows left = Closing rows₀ base among left rows
+Inv-loop rows₀ base among middles left₀ rows left = Closing rows₀ base among left rows
 
 abbrev μ-loop : tie.MeasureT-loop
-μ-loop rows₀ base among left₀ rows left = left
-
-inner-requires : tie.Need-inner-requires Inv-loop μ-loop
-inner-requires c κs = search needs
+μ-loop rows₀ base among middles left₀ rows left = left
 
 loop-holds : tie.Need-loop-holds Inv-loop μ-loop
 loop-holds c = search closing-start
@@ -44,7 +41,6 @@ close-spec =
     (tie.spec
     Inv-loop
     μ-loop
-    inner-requires
     loop-holds
     first-requires
     rest-requires

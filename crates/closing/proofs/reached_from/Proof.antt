@@ -1,7 +1,7 @@
 -- The invariant: the members of the set are there, and all that those lead to which are no longer left.
 use borrow.Author.Needs.{needs}
 use Rattle.closing.proofs.RewriteLaws.{rest-less}
-use Rattle.closing.proofs.ConnectLaws.{Reaching, reaching-start, reaching-turn, reaching-finish}
+use Rattle.closing.proofs.ReachLaws.{Reaching, reaching-start, reaching-turn, reaching-finish}
 use Rattle.closing.proofs.reached_from.Statement.{statement}
 use Rattle.closing.proofs.reached_from.Tie as tie
 
@@ -12,7 +12,7 @@ abbrev μ-loop : tie.MeasureT-loop
 μ-loop rows base set reached₀ left₀ reached left = left
 
 loop-holds : tie.Need-loop-holds Inv-loop μ-loop
-loop-holds c = search (reaching-start, needs)
+loop-holds c = search reaching-start
 
 first-requires : tie.Need-first-requires Inv-loop μ-loop
 first-requires c κs = search needs
@@ -36,10 +36,10 @@ loop-less : tie.Need-loop-less Inv-loop μ-loop
 loop-less c = search rest-less
 
 loop-again : tie.Need-loop-again Inv-loop μ-loop
-loop-again c = search (reaching-turn, needs)
+loop-again c = search reaching-turn
 
 returns : tie.Need-returns Inv-loop μ-loop
-returns c = search (reaching-finish, needs)
+returns c = search reaching-finish
 
 pub reached-from-spec : {M : Type 1} → statement M
 reached-from-spec =

@@ -1,6 +1,6 @@
 -- The targets are the eight places of the attribute put to those of the position; what the row has of them is taken away.
 use borrow.Author.Needs.{needs}
-use Rattle.inducing.proofs.ClosesLaws.{missing-set}
+use Rattle.inducing.proofs.JoinLaws.{missing-set}
 use Rattle.inducing.proofs.missing.Statement.{statement}
 use Rattle.inducing.proofs.missing.Tie as tie
 
