@@ -71,7 +71,7 @@ insert-old x i s h =
     ⊎-elim (λ e. subst⁻¹ (λ (y : ℕ). T (hasb y (insert i s))) e (insert-new i s))
     (λ n. true-T _ (bit-has x (insert i s) (bit-insert-other i x s n ∙ has-bit x s (T-true _ h)))) (same-or-not x i)
 
--- what is taken out is no member, the others stay, the empty set has none, and every other set has one
+-- what is taken out is no member, the others stay; the empty set has none, no other set has none, and every other has one
 pub has-not : (i s : ℕ) → T (not (hasb i (remove i s)))
 has-not i s = false-T _ (bit-lacks i (remove i s) (bit-remove-same i s))
 
@@ -80,6 +80,10 @@ has-other i j s h = ap (λ (x : ℕ). eqb x 1) (bit-remove-other i j s h)
 
 pub none-left : (i : ℕ) → T (not (hasb i 0))
 none-left i = false-T _ (bit-lacks i 0 (bit-of-zero i))
+
+pub no-member : (s : ℕ) → ((i : ℕ) → T (hasb i s) → ⊥) → s ≡ 0
+no-member s n =
+    bits-ext s 0 (λ i. ⊎-elim (λ z. z ∙ sym (bit-of-zero i)) (λ o. absurd (n i (true-T _ (bit-has i s o)))) (bit-cases i s))
 
 pub some-member : (w s : ℕ) → s < 2 ^ w → (s ≡ 0 → ⊥) → (i : ℕ) × (i < w) × T (hasb i s)
 some-member w s h n =

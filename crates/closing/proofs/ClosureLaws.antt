@@ -16,8 +16,8 @@ use Rattle.basics.specs.Lists.{word}
 use Rattle.basics.proofs.TestLaws.{chosen, passed-over, tested, true-T}
 use Rattle.relations.specs.Paper.{Path⁺}
 use Rattle.relations.proofs.PathLaws.{path-join, path-map, path-first}
-use Rattle.closing.specs.Rows.{leads}
-use Rattle.closing.specs.Closure.{rowBy, passed, Arc, ArcOf, Starts, Meeting, Closure}
+use Rattle.closing.specs.Rows.{leads, Arc, Starts}
+use Rattle.closing.specs.Closure.{rowBy, passed, ArcOf, Meeting, Closure}
 use Rattle.closing.proofs.RewriteLaws.{Rewriting, rewriting-start, next-same, turn, finish, still, gone}
 use Rattle.closing.proofs.RewrittenLaws.{rewritten-length, rewritten-outside, rewritten-idle, rewritten-at}
 

@@ -20,17 +20,9 @@ rowBy row m onward = cond (hasb m row) (union row onward) row
 unfoldable pub passed : List ℕ → ℕ → ℕ → ℕ → List ℕ
 passed rows base among m = rewritten rows base among (λ o. rowBy (word rows (base + o)) m (word rows (base + m)))
 
--- an arc of the rows
-abbrev pub Arc : List ℕ → ℕ → ℕ → ℕ → Type 0
-Arc rows base c d = (c < 64) × T (leads rows base c d)
-
--- one that starts at a member of a set
+-- an arc of the rows that starts at a member of a set
 abbrev pub ArcOf : List ℕ → ℕ → ℕ → ℕ → ℕ → Type 0
 ArcOf rows base among c d = T (hasb c among) × T (leads rows base c d)
-
--- every arc does
-abbrev pub Starts : List ℕ → ℕ → ℕ → Type 0
-Starts rows base among = (o x : ℕ) → o < 64 → T (leads rows base o x) → T (hasb o among)
 
 -- paths within a set meet at each member of it that is no middle: what leads to it leads to all that it leads to
 pub record Meeting (rows : List ℕ) (base among middles : ℕ) : Type 0 where

@@ -16,11 +16,19 @@ use Rattle.basics.specs.Lists.{word, tabulate}
 unfoldable pub leads : List ℕ → ℕ → ℕ → ℕ → Bool
 leads rows base o b = hasb b (word rows (base + o))
 
+-- an arc of the rows
+abbrev pub Arc : List ℕ → ℕ → ℕ → ℕ → Type 0
+Arc rows base c d = (c < 64) × T (leads rows base c d)
+
+-- every arc starts at a member of a set
+abbrev pub Starts : List ℕ → ℕ → ℕ → Type 0
+Starts rows base among = (o x : ℕ) → o < 64 → T (leads rows base o x) → T (hasb o among)
+
 -- the rows of a rule: closed, and between its occurrences
 pub record Kept (rows : List ℕ) (base among : ℕ) : Type 0 where
   pub room : base + 64 ≤ length rows
   pub closed : (o m x : ℕ) → o < 64 → m < 64 → T (leads rows base o m) → T (leads rows base m x) → T (leads rows base o x)
-  pub from : (o x : ℕ) → o < 64 → T (leads rows base o x) → T (hasb o among)
+  pub from : Starts rows base among
   pub to : (o x : ℕ) → o < 64 → T (leads rows base o x) → T (hasb x among)
 
 -- the members of a set and all that they lead to

@@ -22,7 +22,7 @@ fn reached_from(rows: &[u64], base: usize, set: u64) -> u64
 }
 
 // Adds the arcs from o to each member of `to`, and those from o to all that they lead to.
-pub fn extend(rows: &mut [u64], base: usize, o: usize, to: u64)
+pub fn extend_row(rows: &mut [u64], base: usize, o: usize, to: u64)
     requires { ⌜ (base + 64 ≤ length (now rows)) × (o < 64) ⌝ }
     ensures { λ _. ⌜ spec.Extended (now (rows .entry)) base o to (now (rows .exit)) ⌝ }
 {

@@ -8,8 +8,8 @@ use lib.Dec.{T}
 use Rattle.bits.specs.Bit.{hasb}
 use Rattle.relations.specs.Paper.{Path⁺}
 use Rattle.relations.proofs.PathLaws.{path-join, path-into, path-map, path-first, path-last}
-use Rattle.closing.specs.Rows.{leads, Kept}
-use Rattle.closing.specs.Closure.{Arc, Starts, Closure}
+use Rattle.closing.specs.Rows.{leads, Arc, Starts, Kept}
+use Rattle.closing.specs.Closure.{Closure}
 use Rattle.closing.proofs.ClosureLaws.{closure-starts, leads-path, path-leads}
 use Rattle.inducing.specs.Closes.{Inside, Grown, Closes}
 

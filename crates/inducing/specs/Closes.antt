@@ -10,7 +10,7 @@ use lib.ListN.{length}
 use Rattle.bits.specs.Bit.{hasb}
 use Rattle.basics.specs.Lists.{word}
 use Rattle.relations.specs.Paper.{Path⁺}
-use Rattle.closing.specs.Rows.{leads, Kept}
+use Rattle.closing.specs.Rows.{leads, Arc, Kept}
 
 -- the one arc from a to b
 pub record Only (a b c d : ℕ) : Type 0 where
@@ -21,9 +21,9 @@ pub record Only (a b c d : ℕ) : Type 0 where
 abbrev pub Inside : ℕ → (ℕ → ℕ → Type 0) → Type 0
 Inside among arc = (a b : ℕ) → arc a b → T (hasb a among) × T (hasb b among)
 
--- a step from c to d: the rows lead there, or it is one of the arcs
+-- a step from c to d: an arc of the rows, or one of those that are added
 abbrev pub Step : List ℕ → ℕ → (ℕ → ℕ → Type 0) → ℕ → ℕ → Type 0
-Step rows base arc c d = ((c < 64) × T (leads rows base c d)) ⊎ arc c d
+Step rows base arc c d = Arc rows base c d ⊎ arc c d
 
 -- the rows after some arcs were added to those before: nothing lost, every arc there, nothing but paths
 pub record Grown (before : List ℕ) (base : ℕ) (arc : ℕ → ℕ → Type 0) (after : List ℕ) : Type 0 where

@@ -67,7 +67,7 @@ fn join_from(rows: &mut [u64], base: usize, i: usize, arcs: u64, a: usize, start
     if to == 0 {
         return starts;
     }
-    closing::extend(rows, base, o, to);
+    closing::extend_row(rows, base, o, to);
     bits::with(starts, o)
 }
 

@@ -14,13 +14,12 @@ use Rattle.basics.proofs.TestLaws.{below-or-not}
 use Rattle.bits.specs.Bit.{bit, number, collect, below, union, raised}
 use Rattle.bits.proofs.BitLaws.{bit-above, bit-below, bit-of-zero}
 use Rattle.bits.proofs.CollectLaws.{collect-lt}
-use Rattle.bits.proofs.MemberLaws.{hasb-collect, hasb-below}
+use Rattle.bits.proofs.MemberLaws.{hasb-collect, hasb-below, no-member}
 use Rattle.grammar.specs.Table.{attributes, nonterminal, lengthAt}
 use Rattle.sets.specs.Visits.{visits}
 use Rattle.access.specs.ByPlace.{symbolFrom, Shaped}
 use Rattle.access.proofs.Blocks.{block-more, collect-rest, below-small}
 use Rattle.remaining.specs.RuleSets.{childVisits, madeAttributes, visitFrom, visitsFrom, occurrencesFrom, madeFrom, Few}
-use Rattle.remaining.proofs.MaskLaws.{no-member}
 
 bit-of-block : (t : Bool) (n a : ℕ) → bit a (cond t (below n) 0) ≡ number (t and ltb a n)
 unfolding _and_

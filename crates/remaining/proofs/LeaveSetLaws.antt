@@ -31,6 +31,7 @@ use Rattle.bits.proofs.MemberLaws.{
   hasb-below,
   hasb-ext,
   none-left,
+  no-member,
   insert-cases,
   insert-new,
   union-cases,
@@ -41,7 +42,6 @@ use Rattle.bits.proofs.RestLaws.{rest-of}
 use Rattle.sets.specs.Visits.{visits}
 use Rattle.access.specs.ByPlace.{symbolFrom}
 use Rattle.remaining.specs.RuleSets.{synthesizedMask, LeftLeaves, leaveFree, others, leaveReady, readyLeaves}
-use Rattle.remaining.proofs.MaskLaws.{no-member}
 use Rattle.remaining.proofs.MemberWalks.{first-member, under-first}
 
 module _ (g s : List ℕ) (p computes calls leaves waiting : ℕ) where

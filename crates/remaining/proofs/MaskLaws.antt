@@ -1,21 +1,20 @@
 -- The masks by their members: which attributes are in a set, which occurrences a visit or a leave makes available, which visits are ready.
 -- Assumes nothing.
-use Prim.Native.Nat.{ℕ, zero, suc, _+_, _*_, _-_, _/_, _%_, _^_, _≤_, _<_}
+use Prim.Native.Nat.{ℕ, _+_, _*_, _-_, _/_, _%_, _≤_, _<_}
 use mathlib.Core.Path.{_≡_, sym, _∙_, ap, subst, subst⁻¹}
 use mathlib.Core.Logic.{⊎-elim}
 use mathlib.Core.Bool.{Bool}
 use mathlib.Core.List.{List}
 use native.Mathlib.Omega.{arith}
-use lib.Dec.{T, leb, eqb→eq, leb→le, le→leb, T-not, not-T}
-use lib.Pow.{pow-pos}
+use lib.Dec.{T, leb, eqb→eq, leb→le, le→leb, T-not}
 use Rattle.basics.specs.Lists.{word}
 use Rattle.bits.specs.Bit.{hasb, raised, common, field, lowest}
 use Rattle.bits.proofs.BitLaws.{bit-has, bit-lacks}
 use Rattle.bits.proofs.CollectLaws.{collect-lt}
 use Rattle.bits.proofs.LowestLaws.{IsLowest, lowest-is}
 use Rattle.bits.proofs.ShiftLaws.{has-field, has-raised, raised-low}
-use Rattle.bits.proofs.MemberLaws.{hasb-collect, hasb-below, hasb-ext, none-left, common-both, both-common}
-use Rattle.basics.proofs.TestLaws.{and-intro, and-left, and-right, eq-T, true-T, false-T, T-false, below-or-not}
+use Rattle.bits.proofs.MemberLaws.{hasb-collect, hasb-below, none-left, no-member, common-both, both-common}
+use Rattle.basics.proofs.TestLaws.{and-intro, and-left, and-right, eq-T, true-T, false-T, below-or-not}
 use Rattle.sets.specs.Visits.{setNumber, visits}
 use Rattle.access.specs.ByPlace.{symbolFrom}
 use Rattle.remaining.specs.RuleSets.{setMask, inheritedMask, synthesizedMask, handedUp, handedDown, takenAlong, Along, visitReady, readyVisits}
@@ -35,16 +34,6 @@ module _ (s : List ℕ) (x k : ℕ) where
   pub set-in : (a : ℕ) → a < 8 → setNumber s x a ≡ k → T (hasb a (setMask s x k))
   unfolding setMask
   set-in a h e = subst⁻¹ (λ (b : Bool). T b) (hasb-collect 8 a _ h) (eq-T (setNumber s x a) k e)
-
--- a set with no member is empty
-less-pow : (n : ℕ) → n < 2 ^ n
-less-pow zero = omega arith
-less-pow (suc n) = omega (arith, less-pow n, pow-pos n)
-
-pub no-member : (x : ℕ) → ((a : ℕ) → T (hasb a x) → ⊥) → x ≡ 0
-no-member x n =
-    hasb-ext x x 0 (less-pow x) (pow-pos x)
-    (λ k l. T-false (hasb k x) (not-T (hasb k x) (n k)) ∙ sym (T-false (hasb k 0) (none-left k)))
 
 -- the attributes of a set at position i
 module _ (s : List ℕ) (x k i : ℕ) where

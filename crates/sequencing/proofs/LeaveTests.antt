@@ -11,7 +11,7 @@ use Rattle.bits.specs.Bit.{hasb, remove, common, lowest}
 use Rattle.bits.proofs.BitLaws.{bit-has, bit-lacks}
 use Rattle.bits.proofs.LowestLaws.{lowest-is, bit-under-lowest}
 use Rattle.bits.proofs.CollectLaws.{collect-lt}
-use Rattle.bits.proofs.MemberLaws.{hasb-collect, hasb-below, none-left, has-not, has-other, common-both, both-common}
+use Rattle.bits.proofs.MemberLaws.{hasb-collect, hasb-below, none-left, no-member, has-not, has-other, common-both, both-common}
 use Rattle.basics.specs.Tests.{_or_}
 use Rattle.basics.proofs.TestLaws.{
   and-intro,
@@ -46,7 +46,7 @@ use Rattle.remaining.proofs.MemberWalks.{was-left}
 use Rattle.sequencing.proofs.Makers.{visit-even}
 use Rattle.sequencing.proofs.ReadyLeaves.{later-leaves, LeaveReady}
 use Rattle.remaining.proofs.RemainsLaws.{remains-compute, remains-visit, remains-leave, Kind, aCompute, aVisit, aLeave, kind-of}
-use Rattle.remaining.proofs.MaskLaws.{in-set, set-in, no-member}
+use Rattle.remaining.proofs.MaskLaws.{in-set, set-in}
 use Rattle.sequencing.proofs.GivenLaws.{left-leave, five-visits, orderly-rule, set-from, visits-from, left-compute, left-visit}
 
 -- what is left besides the leaves

@@ -25,8 +25,8 @@ missing-requires c κs = search needs
 returns : tie.Need-returns
 returns c = search none-missing
 
-extend-requires : tie.Need-extend-requires
-extend-requires c κs = search needs
+extend-row-requires : tie.Need-extend-row-requires
+extend-row-requires c κs = search needs
 
 with-requires : tie.Need-with-requires
 with-requires c κs = search needs
@@ -48,7 +48,7 @@ join-from-spec =
     slice-read-missing
     missing-requires
     returns
-    extend-requires
+    extend-row-requires
     with-requires
     same-length
     returns-2)

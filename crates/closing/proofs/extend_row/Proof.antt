@@ -1,8 +1,8 @@
 -- What the new arcs lead to is found first, and the row gets all of it.
 use borrow.Author.Needs.{needs}
 use Rattle.closing.proofs.ReachLaws.{extended-row}
-use Rattle.closing.proofs.extend.Statement.{statement}
-use Rattle.closing.proofs.extend.Tie as tie
+use Rattle.closing.proofs.extend_row.Statement.{statement}
+use Rattle.closing.proofs.extend_row.Tie as tie
 
 reached-from-requires : tie.Need-reached-from-requires
 reached-from-requires c κs = search needs
@@ -34,8 +34,8 @@ same-length c = search needs
 returns : tie.Need-returns
 returns c = search extended-row
 
-pub extend-spec : {M : Type 1} → statement M
-extend-spec =
+pub extend-row-spec : {M : Type 1} → statement M
+extend-row-spec =
     tie.close
     (tie.spec
     reached-from-requires
