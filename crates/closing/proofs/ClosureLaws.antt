@@ -1,103 +1,115 @@
--- Closing rows one middle after the other. Once m was the middle, a path to m and one from m are one path, and later middles keep it so:
--- if both parts go by way of the later one, so does the whole. Assumes nothing.
-use Prim.Native.Nat.{ℕ, _+_, _^_, _≤_, _<_}
-use mathlib.Core.Path.{_≡_, refl, sym, _∙_, ap, subst, subst⁻¹}
+-- Closing rows by some middles after others. Once m was a middle, a path to m and one from m are one path, and later middles keep it so:
+-- if both parts go by way of later ones, so does the whole. Assumes nothing.
+use Prim.Native.Nat.{ℕ, _+_, _-_, _*_, _/_, _^_, _≤_, _<_}
+use mathlib.Core.Path.{_≡_, refl, sym, _∙_, subst, subst⁻¹}
 use mathlib.Core.Logic.{_⊎_, inl, inr, ⊎-elim}
-use mathlib.Core.Bool.{Bool, true, false, cond, not}
+use mathlib.Core.Bool.{Bool, not}
 use mathlib.Core.List.{List}
 use native.Mathlib.Omega.{arith}
-use lib.Dec.{T}
-use lib.ListN.{length, set}
-use Rattle.bits.specs.Bit.{hasb, union, remove, lowest, First}
-use Rattle.bits.proofs.BitLaws.{bit-has}
+use lib.Dec.{T, T-not, not-T}
+use lib.ListN.{length}
+use Rattle.bits.specs.Bit.{hasb, remove, common, minus, raised, lowest, First}
+use Rattle.bits.proofs.BitLaws.{bit-has, bit-lacks, bit-below, bit-single-same, bit-single-other}
+use Rattle.bits.proofs.ShiftLaws.{has-raised, raised-low}
 use Rattle.bits.proofs.RestLaws.{rest-of}
-use Rattle.bits.proofs.MemberLaws.{hasb-below, union-cases, union-left, union-right, none-left}
+use Rattle.bits.proofs.MemberLaws.{hasb-below, none-left, common-both, both-common, minus-both, both-minus}
 use Rattle.basics.specs.Lists.{word}
-use Rattle.basics.proofs.TestLaws.{chosen, passed-over, tested, true-T}
+use Rattle.basics.proofs.TestLaws.{tested, true-T, false-T, same-or-not, below-or-not}
 use Rattle.relations.specs.Paper.{Path⁺}
-use Rattle.relations.proofs.PathLaws.{path-join, path-map, path-first}
+use Rattle.relations.proofs.PathLaws.{path-join, path-map, path-into, path-first}
 use Rattle.closing.specs.Rows.{leads, Arc, Starts}
-use Rattle.closing.specs.Closure.{rowBy, passed, ArcOf, Meeting, Closure}
-use Rattle.closing.proofs.RewriteLaws.{Rewriting, rewriting-start, next-same, turn, finish, still, gone}
-use Rattle.closing.proofs.RewrittenLaws.{rewritten-length, rewritten-outside, rewritten-idle, rewritten-at}
+use Rattle.closing.specs.Closure.{passed, ArcOf, Meeting, Closure, Stepped}
+use Rattle.closing.specs.Fours.{OfFour, Unions, rowByFour, passedFour}
+use Rattle.closing.proofs.RewriteLaws.{still, gone}
+use Rattle.closing.proofs.PassLaws.{gets-through, passed-through}
+use Rattle.closing.proofs.FourLaws.{four-gets}
 
--- ---- one row
+-- ---- one middle alone
 
-pub by-way : (row m onward v : ℕ) (t : Bool) → t ≡ hasb m row → t ≡ true → v ≡ union row onward → v ≡ rowBy row m onward
-unfolding rowBy
-by-way row m onward v t h y e = e ∙ sym (ap (λ (b : Bool). cond b (union row onward) row) (sym h ∙ y))
+single-has : (m : ℕ) → T (hasb m (2 ^ m))
+single-has m = true-T _ (bit-has m (2 ^ m) (bit-single-same m))
 
-pub no-by-way : (row m onward : ℕ) (t : Bool) → t ≡ hasb m row → t ≡ false → row ≡ rowBy row m onward
-unfolding rowBy
-no-by-way row m onward t h n = sym (ap (λ (b : Bool). cond b (union row onward) row) (sym h ∙ n))
+single-only : (m i : ℕ) → T (hasb i (2 ^ m)) → i ≡ m
+single-only m i t =
+    ⊎-elim (λ e. e) (λ n. absurd (T-not (hasb i (2 ^ m)) (false-T _ (bit-lacks i (2 ^ m) (bit-single-other i m n))) t)) (same-or-not i m)
 
--- ---- the rows of a set by way of one middle
+-- it is closed already
+alone : (rows : List ℕ) (base here m : ℕ) → ((i : ℕ) → T (hasb i here) → i ≡ m) → Closure rows base here rows
+alone rows base here m only =
+    record { size = refl; outside = λ j out. refl; idle = λ o n. refl; sound = λ o x i t. Path⁺.one (i, t); has = λ o x p. along p }
+  where
+    along : {o x : ℕ} → Path⁺ (ArcOf rows base here) o x → T (leads rows base o x)
+    along (Path⁺.one s) = s .1
+    along (Path⁺.more {a = a} {b = b} {c = c} p s) =
+        subst (λ (y : ℕ). T (leads rows base y c)) (only b (s .0) ∙ sym (only a (path-first p .1 .0))) (s .1)
 
--- the invariant of the loop over the rows, with the middle's row in a local
-pub record Passing (entry : List ℕ) (base among m onward : ℕ) (rows : List ℕ) (left : ℕ) : Type 0 where
-  pub middle : onward ≡ word entry (base + m)
-  pub room : base + 64 ≤ length entry
-  pub size : length rows ≡ length entry
-  pub rewriting : Rewriting entry base among (λ o. rowBy (word entry (base + o)) m onward) rows left
+single-step : (rows : List ℕ) (base among here m : ℕ) (after : List ℕ) → among < 2 ^ 64 → base + 64 ≤ length rows → T (hasb m here)
+    → ((i : ℕ) → T (hasb i here) → i ≡ m) → after ≡ passed rows base among m → Stepped rows base among here after
+single-step rows base among here m after small room member only e =
+    record {
+      between = rows;
+      closure = alone rows base here m only;
+      through = passed-through rows base among here m after small room member only e;
+    }
 
-module _ (entry : List ℕ) (base among m onward : ℕ) where
-  abbrev new-row : ℕ → ℕ
-  new-row o = rowBy (word entry (base + o)) m onward
+-- as the code meets it: nothing but the first is there
+pub lone-step : (rows : List ℕ) (base among here m rest : ℕ) (after : List ℕ) → among < 2 ^ 64 → base + 64 ≤ length rows → First here m
+    → rest ≡ remove (lowest 64 here) here → rest ≡ 0 → after ≡ passed rows base among m → Stepped rows base among here after
+lone-step rows base among here m rest after small room f e z h =
+    single-step rows base among here m after small room (true-T _ (bit-has m here (f .member)))
+    (λ i t.
+    ⊎-elim (λ q. q) (λ n. absurd (T-not (hasb i here) n t))
+    (gone m here i (subst (λ (y : ℕ). T (not (hasb i y))) (sym z ∙ rest-of here m rest f e) (none-left i)))) h
 
-  pub passing-start : among < 2 ^ 64 → base + 64 ≤ length entry → onward ≡ word entry (base + m) → Passing entry base among m onward entry among
-  passing-start small h e =
-      record {
-        middle = e;
-        room = h;
-        size = refl;
-        rewriting = rewriting-start entry base among new-row (λ o t. omega (arith, hasb-below 64 o among small t));
-      }
+-- ---- some of four middles
 
-  -- the row that is next is as it was, so it gets what it is to get
-  pub passing-turn : (rows : List ℕ) (left o next v : ℕ) → Passing entry base among m onward rows left → First left o
-      → next ≡ remove (lowest 64 left) left → v ≡ rowBy (word rows (base + o)) m onward
-      → Passing entry base among m onward (set rows (base + o) v) next
-  passing-turn rows left o next v w f e h =
-      let same = next-same entry base among new-row rows left o (w .rewriting) (f .small) (true-T _ (bit-has o left (f .member))) in
-      let r = turn entry base among new-row rows left o next v (w .rewriting) f (rest-of left o next f e) (h ∙ ap (λ (x : ℕ). rowBy x m onward) same) in
-      record { middle = w .middle; room = w .room; size = r .size; rewriting = r }
+-- paths need not meet anywhere for the whole set to be closed
+pub whole-meeting : (rows : List ℕ) (base here : ℕ) → Meeting rows base here here
+whole-meeting rows base here = record { within = λ m t. t; meets = λ o j x n s t. absurd (T-not (hasb j here) n (t .0)) }
 
-  pub passing-finish : (rows : List ℕ) (left : ℕ) → Passing entry base among m onward rows left → left ≡ 0 → rows ≡ passed entry base among m
-  unfolding passed
-  passing-finish rows left w e =
-      finish entry base among (λ o. rowBy (word entry (base + o)) m (word entry (base + m))) rows left
-      (subst (λ (n : ℕ). Rewriting entry base among (λ o. rowBy (word entry (base + o)) m n) rows left) (w .middle) (w .rewriting)) e
+pub four-step : (rows : List ℕ) (base among here k : ℕ) (between unions after : List ℕ) → among < 2 ^ 64 → base + 64 ≤ length rows → OfFour k here
+    → Closure rows base here between → Unions between base here k 16 unions → after ≡ passedFour between base among k unions
+    → Stepped rows base among here after
+unfolding passedFour
+four-step rows base among here k between unions after small room four w u e =
+    record {
+      between = between;
+      closure = w;
+      through = gets-through between base among here (rowByFour k unions) after small (omega (arith, w .size, room))
+          (four-gets between base here k unions four u) e;
+    }
 
--- What leads where afterwards: what did before, and what m leads to where a member leads to m.
-module _ (rows : List ℕ) (base among m : ℕ) (small : among < 2 ^ 64) (room : base + 64 ≤ length rows) (o x : ℕ) (member : T (hasb o among)) where
-  row-is : word (passed rows base among m) (base + o) ≡ rowBy (word rows (base + o)) m (word rows (base + m))
-  unfolding passed
-  row-is = let h = hasb-below 64 o among small member in rewritten-at rows base among _ o h (omega arith) member
+some-in : (m s : ℕ) → T (hasb m s) → 0 < s
+some-in m s t =
+    ⊎-elim (λ z. absurd (T-not (hasb m 0) (none-left m) (subst (λ (y : ℕ). T (hasb m y)) z t))) (λ n. omega (arith, n)) (same-or-not s 0)
 
-  passed-cases : T (leads (passed rows base among m) base o x) → T (leads rows base o x) ⊎ (T (leads rows base o m) × T (leads rows base m x))
-  unfolding leads rowBy
-  passed-cases t =
-      let s : T (hasb x (rowBy (word rows (base + o)) m (word rows (base + m)))) = subst (λ (y : ℕ). T (hasb x y)) row-is t in
-      ⊎-elim
-      (λ r.
-      ⊎-elim (λ l. inl l) (λ l. inr (r, l))
-      (union-cases x (word rows (base + o)) (word rows (base + m)) (subst (λ (y : ℕ). T (hasb x y)) (chosen (hasb m (word rows (base + o))) _ _ r) s)))
-      (λ r. inl (subst (λ (y : ℕ). T (hasb x y)) (passed-over (hasb m (word rows (base + o))) _ _ r) s))
-      (tested (hasb m (word rows (base + o))))
+-- the group that the first of those left is one of
+module _ (left m k four here : ℕ) (f : First left m) (e : k ≡ m / 4 * 4) (h : four ≡ raised k 15) (is : here ≡ common left four) where
+  member-there : T (hasb m here)
+  member-there =
+      subst⁻¹ (λ (y : ℕ). T (hasb m y)) is
+      (both-common m left four (true-T _ (bit-has m left (f .member)))
+      (subst⁻¹ (λ (y : ℕ). T (hasb m y)) h
+      (subst⁻¹ (λ (b : Bool). T b) (has-raised k m 15 (omega (arith, e)))
+      (true-T _ (bit-has (m - k) 15 (bit-below 4 (m - k) (omega (arith, e))))))))
 
-  passed-keeps : T (leads rows base o x) → T (leads (passed rows base among m) base o x)
-  unfolding leads rowBy
-  passed-keeps t =
-      subst⁻¹ (λ (y : ℕ). T (hasb x y)) row-is
-      (⊎-elim (λ r. subst⁻¹ (λ (y : ℕ). T (hasb x y)) (chosen (hasb m (word rows (base + o))) _ _ r) (union-left x _ _ t))
-      (λ r. subst⁻¹ (λ (y : ℕ). T (hasb x y)) (passed-over (hasb m (word rows (base + o))) _ _ r) t) (tested (hasb m (word rows (base + o)))))
+  pub of-four : OfFour k here
+  of-four i t =
+      let r = subst (λ (y : ℕ). T (hasb i y)) h (common-both i left four (subst (λ (y : ℕ). T (hasb i y)) is t) .1) in
+      ⊎-elim (λ l. absurd (T-not (hasb i (raised k 15)) (false-T _ (raised-low k i 15 l)) r))
+      (λ l. (
+        l,
+        let s = hasb-below 4 (i - k) 15 (omega arith) (subst (λ (b : Bool). T b) (has-raised k i 15 l) r) in omega (arith, s),
+      )) (below-or-not i k)
 
-  passed-via : T (leads rows base o m) → T (leads rows base m x) → T (leads (passed rows base among m) base o x)
-  unfolding leads rowBy
-  passed-via r t =
-      subst⁻¹ (λ (y : ℕ). T (hasb x y)) row-is
-      (subst⁻¹ (λ (y : ℕ). T (hasb x y)) (chosen (hasb m (word rows (base + o))) _ _ r)
-      (union-right x (word rows (base + o)) (word rows (base + m)) t))
+  pub some-here : 0 < here
+  some-here = some-in m here member-there
+
+  pub fewer-left : (next : ℕ) → next ≡ minus left here → next < left
+  unfolding minus
+  fewer-left next q =
+      let t = true-T _ (bit-has m left (f .member)) in
+      omega (arith, q, some-in m left t, some-in m (common left here) (both-common m left here t member-there))
 
 -- ---- all middles
 
@@ -127,56 +139,105 @@ module _ (before : List ℕ) (base among : ℕ) where
         meets = λ o j x io ij n s t. w .meets o j x n (io, s) (ij, t);
       }
 
+  -- A step by way of some middles: they are closed among themselves, and then every row that leads to one of them gets what that one leads to.
+  module _ (rows : List ℕ) (left here next : ℕ) (after : List ℕ) (w : Closing before base among left rows) (v : Stepped rows base among here after)
+      (inside : (m : ℕ) → T (hasb m here) → T (hasb m left)) (still-left : (m : ℕ) → T (hasb m next) → T (hasb m left))
+      (done : (m : ℕ) → T (not (hasb m next)) → T (hasb m here) ⊎ T (not (hasb m left))) where
+    abbrev mid : List ℕ
+    mid = v .between
+
+    middle : (m : ℕ) → T (hasb m here) → T (hasb m among)
+    middle m h = w .within m (inside m h)
+
+    mid-keeps : (o x : ℕ) → T (leads rows base o x) → T (leads mid base o x)
+    unfolding leads
+    mid-keeps o x t =
+        ⊎-elim (λ h. v .closure .has o x (Path⁺.one (h, t))) (λ n. subst⁻¹ (λ (y : ℕ). T (hasb x y)) (v .closure .idle o n) t) (tested (hasb o here))
+
+    mid-idle : (o x : ℕ) → T (not (hasb o here)) → T (leads mid base o x) → T (leads rows base o x)
+    unfolding leads
+    mid-idle o x n t = subst (λ (y : ℕ). T (hasb x y)) (v .closure .idle o n) t
+
+    mid-sound : (o x : ℕ) → T (hasb o among) → T (leads mid base o x) → Path⁺ (ArcOf before base among) o x
+    mid-sound o x i t =
+        ⊎-elim (λ h. path-into (λ c d s. w .sound c d (middle c (s .0)) (s .1)) (v .closure .sound o x h t))
+        (λ n. w .sound o x i (mid-idle o x n t)) (tested (hasb o here))
+
+    -- two middles of the step
+    mid-joins : (m n x : ℕ) → T (hasb m here) → T (hasb n here) → T (leads mid base m n) → T (leads mid base n x) → T (leads mid base m x)
+    mid-joins m n x h i s t = v .closure .has m x (path-join (v .closure .sound m n h s) (v .closure .sound n x i t))
+
+    -- a middle that was done before: the last arc of a path to it goes on from there
+    mid-meets : (o j x : ℕ) → T (hasb o among) → T (hasb j among) → T (not (hasb j left)) → T (leads mid base o j) → T (leads mid base j x)
+        → T (leads mid base o x)
+    mid-meets o j x io ij n s t =
+        ⊎-elim (λ h. v .closure .has o x (onward (v .closure .sound o j h s)))
+        (λ h. mid-keeps o x (w .meets o j x io ij n (mid-idle o j h s) from-it)) (tested (hasb o here))
+      where
+        from-it : T (leads rows base j x)
+        from-it = mid-idle j x (not-T (hasb j here) (λ h. T-not (hasb j left) n (inside j h))) t
+
+        onward : {c : ℕ} → Path⁺ (ArcOf rows base here) c j → Path⁺ (ArcOf rows base here) c x
+        onward (Path⁺.one {a = a} e) = Path⁺.one (e .0, w .meets a j x (middle a (e .0)) ij n (e .1) from-it)
+        onward (Path⁺.more {b = b} p e) = Path⁺.more p (e .0, w .meets b j x (middle b (e .0)) ij n (e .1) from-it)
+
+    abbrev Via : ℕ → ℕ → Type 0
+    Via o x = T (leads mid base o x) ⊎ ((m : ℕ) × T (hasb m here) × T (leads mid base o m) × T (leads mid base m x))
+
+    -- a middle of this step
+    at-middle : (o j x : ℕ) → T (hasb o among) → T (hasb j here) → Via o j → Via j x → T (leads after base o x)
+    at-middle o j x io h s t = to-it s (⊎-elim (λ a. a) (λ b. mid-joins j (b .0) x h (b .1) (b .2) (b .3)) t)
+      where
+        to-it : Via o j → T (leads mid base j x) → T (leads after base o x)
+        to-it (inl a) t = v .through .by-way o j x io h a t
+        to-it (inr (m, i, a, b)) t = v .through .by-way o m x io i a (mid-joins m j x i h b t)
+
+    before-it : (o j x : ℕ) → T (hasb o among) → T (hasb j among) → T (not (hasb j left)) → Via o j → Via j x → T (leads after base o x)
+    before-it o j x io ij n (inl s) (inl t) = v .through .keeps o x io (mid-meets o j x io ij n s t)
+    before-it o j x io ij n (inl s) (inr (m, h, t, u)) = v .through .by-way o m x io h (mid-meets o j m io ij n s t) u
+    before-it o j x io ij n (inr (m, h, r, s)) (inl t) = v .through .by-way o m x io h r (mid-meets m j x (middle m h) ij n s t)
+    before-it o j x io ij n (inr (m, h, r, s)) (inr (q, i, t, u)) =
+        v .through .by-way o m x io h r (mid-joins m q x h i (mid-meets m j q (middle m h) ij n s t) u)
+
+    closing-more : Closing before base among next after
+    closing-more =
+        record {
+          room = w .room;
+          size = v .through .size ∙ (v .closure .size ∙ w .size);
+          outside = λ j out. v .through .outside j out ∙ (v .closure .outside j out ∙ w .outside j out);
+          idle = λ o n.
+              v .through .idle o n
+              ∙ (v .closure .idle o (not-T (hasb o here) (λ h. T-not (hasb o among) n (middle o h))) ∙ w .idle o n);
+          within = λ o t. w .within o (still-left o t);
+          keeps = λ o x i t. v .through .keeps o x i (mid-keeps o x (w .keeps o x i t));
+          sound = λ o x i t.
+              ⊎-elim (λ l. mid-sound o x i l) (λ l. path-join (mid-sound o (l .0) i (l .2)) (mid-sound (l .0) x (middle (l .0) (l .1)) (l .3)))
+              (v .through .sound o x i t);
+          meets = λ o j x io ij n s t.
+              let a = v .through .sound o j io s in
+              let b = v .through .sound j x ij t in
+              ⊎-elim (λ h. at-middle o j x io h a b) (λ m. before-it o j x io ij m a b) (done j n);
+        }
+
   pub closing-turn : (rows : List ℕ) (left m next : ℕ) (after : List ℕ) → Closing before base among left rows → among < 2 ^ 64 → First left m
       → next ≡ remove (lowest 64 left) left → after ≡ passed rows base among m → Closing before base among next after
-  unfolding passed
   closing-turn rows left m next after w small f e h =
-      subst⁻¹ (λ (s : List ℕ). Closing before base among next s) h
-      (subst⁻¹ (λ (n : ℕ). Closing before base among n (passed rows base among m)) (rest-of left m next f e)
-      (record {
-        room = w .room;
-        size = rewritten-length rows base among _ ∙ w .size;
-        outside = λ j out. rewritten-outside rows base among _ j out ∙ w .outside j out;
-        idle = λ o n. rewritten-idle rows base among _ o n ∙ w .idle o n;
-        within = λ o t. w .within o (still m left o t);
-        keeps = λ o x i t. keep o x i (w .keeps o x i t);
-        sound = λ o x i t.
-            ⊎-elim (λ l. w .sound o x i l) (λ l. path-join (w .sound o m i (l .0)) (w .sound m x middle (l .1))) (cases o x i t);
-        meets = λ o j x io ij n s t.
-            ⊎-elim (λ q. at-middle o x io (subst (λ (y : ℕ). T (leads (passed rows base among m) base o y)) q s)
-            (subst (λ (y : ℕ). T (leads (passed rows base among m) base y x)) q t))
-            (λ q. before-it o j x io ij q (cases o j io s) (cases j x ij t)) (gone m left j n);
-      }))
-    where
-      middle : T (hasb m among)
-      middle = w .within m (true-T _ (bit-has m left (f .member)))
+      subst⁻¹ (λ (n : ℕ). Closing before base among n after) (rest-of left m next f e)
+      (closing-more rows left (2 ^ m) (remove m left) after w
+      (single-step rows base among (2 ^ m) m after small (omega (arith, w .size, w .room)) (single-has m) (single-only m) h)
+      (λ i t. subst⁻¹ (λ (n : ℕ). T (hasb n left)) (single-only m i t) (true-T _ (bit-has m left (f .member)))) (λ i t. still m left i t)
+      (λ i t. ⊎-elim (λ q. inl (subst⁻¹ (λ (n : ℕ). T (hasb n (2 ^ m))) q (single-has m))) (λ q. inr q) (gone m left i t)))
 
-      here : base + 64 ≤ length rows
-      here = omega (arith, w .size, w .room)
-
-      cases : (o x : ℕ) → T (hasb o among) → T (leads (passed rows base among m) base o x)
-          → T (leads rows base o x) ⊎ (T (leads rows base o m) × T (leads rows base m x))
-      cases o x i t = passed-cases rows base among m small here o x i t
-
-      keep : (o x : ℕ) → T (hasb o among) → T (leads rows base o x) → T (leads (passed rows base among m) base o x)
-      keep o x i t = passed-keeps rows base among m small here o x i t
-
-      via : (o x : ℕ) → T (hasb o among) → T (leads rows base o m) → T (leads rows base m x) → T (leads (passed rows base among m) base o x)
-      via o x i s t = passed-via rows base among m small here o x i s t
-
-      -- to the middle, and from it, nothing new leads
-      at-middle : (o x : ℕ) → T (hasb o among) → T (leads (passed rows base among m) base o m) → T (leads (passed rows base among m) base m x)
-          → T (leads (passed rows base among m) base o x)
-      at-middle o x i s t =
-          via o x i (⊎-elim (λ l. l) (λ l. l .0) (cases o m i s)) (⊎-elim (λ l. l) (λ l. l .1) (cases m x middle t))
-
-      before-it : (o j x : ℕ) → T (hasb o among) → T (hasb j among) → T (not (hasb j left))
-          → T (leads rows base o j) ⊎ (T (leads rows base o m) × T (leads rows base m j))
-          → T (leads rows base j x) ⊎ (T (leads rows base j m) × T (leads rows base m x)) → T (leads (passed rows base among m) base o x)
-      before-it o j x io ij n (inl s) (inl t) = keep o x io (w .meets o j x io ij n s t)
-      before-it o j x io ij n (inl s) (inr t) = via o x io (w .meets o j m io ij n s (t .0)) (t .1)
-      before-it o j x io ij n (inr s) (inl t) = via o x io (s .0) (w .meets m j x middle ij n (s .1) t)
-      before-it o j x io ij n (inr s) (inr t) = via o x io (s .0) (t .1)
+  pub closing-step : (rows : List ℕ) (left four here next : ℕ) (after : List ℕ) → Closing before base among left rows → here ≡ common left four
+      → next ≡ minus left here → Stepped rows base among here after → Closing before base among next after
+  closing-step rows left four here next after w e h v =
+      closing-more rows left here next after w v
+      (λ m t. common-both m left four (subst (λ (n : ℕ). T (hasb m n)) e t) .0)
+      (λ m t. minus-both m left here (subst (λ (n : ℕ). T (hasb m n)) h t) .0)
+      (λ m t.
+      ⊎-elim (λ i. inl i)
+      (λ n. inr (not-T (hasb m left) (λ l. T-not (hasb m next) t (subst⁻¹ (λ (y : ℕ). T (hasb m y)) h (both-minus m left here l n)))))
+      (tested (hasb m here)))
 
   pub closing-finish : (rows : List ℕ) (left : ℕ) → Closing before base among left rows → left ≡ 0 → Closure before base among rows
   closing-finish rows left w e =

@@ -14,11 +14,11 @@ use Rattle.closing.specs.Rows.{leads, rewritten}
 
 -- a row with the paths by way of m, which leads onward to some
 unfoldable pub rowBy : ℕ → ℕ → ℕ → ℕ
-rowBy row m onward = cond (hasb m row) (union row onward) row
+rowBy m onward row = cond (hasb m row) (union row onward) row
 
 -- the rows of a set with the paths by way of m
 unfoldable pub passed : List ℕ → ℕ → ℕ → ℕ → List ℕ
-passed rows base among m = rewritten rows base among (λ o. rowBy (word rows (base + o)) m (word rows (base + m)))
+passed rows base among m = rewritten rows base among (λ o. rowBy m (word rows (base + m)) (word rows (base + o)))
 
 -- an arc of the rows that starts at a member of a set
 abbrev pub ArcOf : List ℕ → ℕ → ℕ → ℕ → ℕ → Type 0
@@ -43,3 +43,19 @@ pub record Closure (before : List ℕ) (base among : ℕ) (after : List ℕ) : T
   pub idle : (o : ℕ) → T (not (hasb o among)) → word after (base + o) ≡ word before (base + o)
   pub sound : (o x : ℕ) → T (hasb o among) → T (leads after base o x) → Path⁺ (ArcOf before base among) o x
   pub has : (o x : ℕ) → Path⁺ (ArcOf before base among) o x → T (leads after base o x)
+
+-- The rows of a set with the paths by way of one of some middles: a row that leads to it gets what it leads to. Every other word stays.
+pub record Through (before : List ℕ) (base among middles : ℕ) (after : List ℕ) : Type 0 where
+  pub size : length after ≡ length before
+  pub outside : (j : ℕ) → (j < base) ⊎ (base + 64 ≤ j) → word after j ≡ word before j
+  pub idle : (o : ℕ) → T (not (hasb o among)) → word after (base + o) ≡ word before (base + o)
+  pub keeps : (o x : ℕ) → T (hasb o among) → T (leads before base o x) → T (leads after base o x)
+  pub by-way : (o m x : ℕ) → T (hasb o among) → T (hasb m middles) → T (leads before base o m) → T (leads before base m x) → T (leads after base o x)
+  pub sound : (o x : ℕ) → T (hasb o among) → T (leads after base o x)
+      → T (leads before base o x) ⊎ ((m : ℕ) × T (hasb m middles) × T (leads before base o m) × T (leads before base m x))
+
+-- the same by way of any number of them: first they are closed among themselves
+pub record Stepped (before : List ℕ) (base among middles : ℕ) (after : List ℕ) : Type 0 where
+  pub between : List ℕ
+  pub closure : Closure before base middles between
+  pub through : Through between base among middles after

@@ -1,10 +1,13 @@
 // Relations in lent rows: arcs are added and the rows closed in place. Together they are the function addarctrans of 000, section 7.
+mod fours;
+
 ghost use mathlib.Core.Path.{_≡_};
 ghost use Prim.Native.Nat.{_+_, _≤_, _<_};
 ghost use lib.ListN.{length};
 ghost use Rattle.bits.specs.Bit.{field, raised};
 ghost use Rattle.closing.specs.Rows as spec;
 ghost use Rattle.closing.specs.Closure as closure;
+ghost use Rattle.closing.specs.Fours as four;
 
 // The members of a set and all that they lead to.
 fn reached_from(rows: &[u64], base: usize, set: u64) -> u64
@@ -33,7 +36,7 @@ pub fn extend_row(rows: &mut [u64], base: usize, o: usize, to: u64)
 // A row with what m leads to, if the row leads to m.
 fn by(row: u64, m: usize, onward: u64) -> u64
     requires { ⌜ m < 64 ⌝ }
-    ensures { λ r. ⌜ r ≡ closure.rowBy row m onward ⌝ }
+    ensures { λ r. ⌜ r ≡ closure.rowBy m onward row ⌝ }
 {
     if bits::has(row, m) {
         return bits::union(row, onward);
@@ -75,7 +78,7 @@ pub fn inner(rows: &[u64], base: usize, among: u64) -> u64
 
 // Closes the rows of a set in place, by one middle after the other. The middles are outermost, so that a path that was found by way of one may
 // go on by way of the next. Members at which paths meet already need not be middles.
-pub fn close(rows: &mut [u64], base: usize, among: u64, middles: u64)
+fn close_singly(rows: &mut [u64], base: usize, among: u64, middles: u64)
     requires { ⌜ base + 64 ≤ length (now rows) ⌝ }
     requires { ⌜ closure.Meeting (now rows) base among middles ⌝ }
     ensures { λ _. ⌜ closure.Closure (now (rows .entry)) base among (now (rows .exit)) ⌝ }
@@ -85,6 +88,46 @@ pub fn close(rows: &mut [u64], base: usize, among: u64, middles: u64)
         let m = bits::first(left);
         left = bits::rest(left);
         pass(rows, base, among, m);
+    }
+}
+
+// The paths by way of middles that are some of the four from k on: these are closed among themselves, and what they lead to is put together for
+// each choice of them, so that every row gets all that it is to get at once.
+fn pass_four(rows: &mut [u64], base: usize, among: u64, here: u64, k: usize)
+    requires { ⌜ (base + 64 ≤ length (now rows)) × (k ≤ 60) ⌝ }
+    requires { ⌜ four.OfFour k here ⌝ }
+    ensures { λ _. ⌜ closure.Stepped (now (rows .entry)) base among here (now (rows .exit)) ⌝ }
+{
+    close_singly(rows, base, here, here);
+    let unions = fours::unions(rows, base, here, k);
+    fours::pass(rows, base, among, k, &unions);
+}
+
+// The same for middles of which there may be one alone, which has nothing to be put together with.
+fn step(rows: &mut [u64], base: usize, among: u64, here: u64, k: usize)
+    requires { ⌜ (base + 64 ≤ length (now rows)) × ((k ≤ 60) × (0 < here)) ⌝ }
+    requires { ⌜ four.OfFour k here ⌝ }
+    ensures { λ _. ⌜ closure.Stepped (now (rows .entry)) base among here (now (rows .exit)) ⌝ }
+{
+    if bits::rest(here) == 0 {
+        pass(rows, base, among, bits::first(here));
+        return;
+    }
+    pass_four(rows, base, among, here, k);
+}
+
+// Closes the rows of a set in place, by up to four middles at a time.
+pub fn close(rows: &mut [u64], base: usize, among: u64, middles: u64)
+    requires { ⌜ base + 64 ≤ length (now rows) ⌝ }
+    requires { ⌜ closure.Meeting (now rows) base among middles ⌝ }
+    ensures { λ _. ⌜ closure.Closure (now (rows .entry)) base among (now (rows .exit)) ⌝ }
+{
+    let mut left = middles;
+    while left != 0 {
+        let k = fours::start(bits::first(left));
+        let here = bits::common(left, fours::four_from(k));
+        left = bits::minus(left, here);
+        step(rows, base, among, here, k);
     }
 }
 

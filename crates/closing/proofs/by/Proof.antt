@@ -1,6 +1,6 @@
 -- The row leads to m and gets what m leads to, or it stays.
 use borrow.Author.Needs.{needs}
-use Rattle.closing.proofs.ClosureLaws.{by-way, no-by-way}
+use Rattle.closing.proofs.PassLaws.{by-way, no-by-way}
 use Rattle.closing.proofs.by.Statement.{statement}
 use Rattle.closing.proofs.by.Tie as tie
 

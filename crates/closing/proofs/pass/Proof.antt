@@ -1,12 +1,13 @@
 -- The invariant: the rows of the members that are no longer left have the paths by way of m, and the others are as they were.
 use borrow.Author.Needs.{needs}
+use Rattle.closing.specs.Closure.{rowBy}
 use Rattle.closing.proofs.RewriteLaws.{rest-less}
-use Rattle.closing.proofs.ClosureLaws.{Passing, passing-start, passing-turn, passing-finish}
+use Rattle.closing.proofs.PassLaws.{Passing, passing-start, passing-turn, passed-finish}
 use Rattle.closing.proofs.pass.Statement.{statement}
 use Rattle.closing.proofs.pass.Tie as tie
 
 abbrev Inv-loop : tie.InvT-loop
-Inv-loop rows₀ base among m onward left₀ rows left = Passing rows₀ base among m onward rows left
+Inv-loop rows₀ base among m onward left₀ rows left = Passing rows₀ base among (rowBy m onward) rows left
 
 abbrev μ-loop : tie.MeasureT-loop
 μ-loop rows₀ base among m onward left₀ rows left = left
@@ -60,7 +61,7 @@ same-length : tie.Need-same-length Inv-loop μ-loop
 same-length c = search needs
 
 returns : tie.Need-returns Inv-loop μ-loop
-returns c = search passing-finish
+returns c = search passed-finish
 
 pub pass-spec : {M : Type 1} → statement M
 pass-spec =

@@ -1,0 +1,79 @@
+// Four middles at a time. What a row gets by way of them depends only on which of the four it leads to: it is one of 16 unions of their rows.
+ghost use mathlib.Core.Path.{_≡_};
+ghost use Prim.Native.Nat.{_+_, _*_, _/_, _%_, _^_, _≤_, _<_};
+ghost use lib.ListN.{length};
+ghost use Rattle.bits.specs.Bit as sets;
+ghost use Rattle.closing.specs.Fours as spec;
+
+// The first of the four that m is one of.
+pub fn start(m: usize) -> usize
+    requires { ⌜ m < 64 ⌝ }
+    ensures { λ k. ⌜ k ≡ m / 4 * 4 ⌝ }
+{
+    m / 4 * 4
+}
+
+// The four from k on.
+pub fn four_from(k: usize) -> u64
+    requires { ⌜ k ≤ 60 ⌝ }
+    ensures { λ r. ⌜ r ≡ sets.raised k 15 ⌝ }
+{
+    15 << k
+}
+
+// The row of m where m is a member of a set, else none.
+fn row_of(rows: &[u64], base: usize, here: u64, m: usize) -> u64
+    requires { ⌜ (base + 64 ≤ length (now rows)) × (m < 64) ⌝ }
+    ensures { λ r. ⌜ r ≡ spec.rowOf (now (rows .entry)) base here m ⌝ }
+{
+    if bits::has(here, m) {
+        return rows[base + m];
+    }
+    0
+}
+
+// Doubles a table of unions, of which there are so many: each of them once more, with a further row.
+fn double(unions: &mut [u64; 16], count: usize, row: u64)
+    requires { ⌜ (length (now unions) ≡ 16) × (count ≤ 8) ⌝ }
+    ensures { λ _. ⌜ spec.Doubled (now (unions .entry)) count row count (now (unions .exit)) ⌝ }
+{
+    for s in 0..count {
+        unions[count + s] = bits::union(unions[s], row);
+    }
+}
+
+// The unions of the rows of those members of a set that are some of the four from k on, by which of the four.
+pub fn unions(rows: &[u64], base: usize, here: u64, k: usize) -> [u64; 16]
+    requires { ⌜ (base + 64 ≤ length (now rows)) × (k ≤ 60) ⌝ }
+    ensures { λ r. ⌜ spec.Unions (now (rows .entry)) base here k 16 r ⌝ }
+{
+    let mut unions = [0u64; 16];
+    double(&mut unions, 1, row_of(rows, base, here, k));
+    double(&mut unions, 2, row_of(rows, base, here, k + 1));
+    double(&mut unions, 4, row_of(rows, base, here, k + 2));
+    double(&mut unions, 8, row_of(rows, base, here, k + 3));
+    unions
+}
+
+// Which of the four from k on a row leads to, as a set of numbers below 4.
+fn which(row: u64, k: usize) -> usize
+    requires { ⌜ k ≤ 60 ⌝ }
+    ensures { λ r. ⌜ r ≡ spec.fourAt k row ⌝ }
+    ensures { λ r. ⌜ r < 16 ⌝ }
+{
+    ((row >> k) % 16) as usize
+}
+
+// The paths by way of the four from k on: each row of a set gets the union of the rows that it leads to.
+pub fn pass(rows: &mut [u64], base: usize, among: u64, k: usize, unions: &[u64; 16])
+    requires { ⌜ (base + 64 ≤ length (now rows)) × (k ≤ 60) ⌝ }
+    ensures { λ _. ⌜ now (rows .exit) ≡ spec.passedFour (now (rows .entry)) base among k (now (unions .entry)) ⌝ }
+{
+    let mut left = among;
+    while left != 0 {
+        let o = bits::first(left);
+        left = bits::rest(left);
+        let row = rows[base + o];
+        rows[base + o] = bits::union(row, unions[which(row, k)]);
+    }
+}
