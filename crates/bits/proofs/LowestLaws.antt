@@ -1,13 +1,13 @@
--- The lowest member: what says that l is it, that there is one such l, and that the walk up and the count of trailing zeros both find it.
--- Assumes nothing.
+-- The lowest member: what says that l is it, that there is one such l, and that the walk up and the count of trailing zeros both find it;
+-- and the end of a set, by the count of leading zeros. Assumes nothing.
 use Prim.Native.Nat.{ℕ, zero, suc, _+_, _-_, _/_, _%_, _^_, _≤_, _<_}
 use native.Mathlib.Nat.{eq-or-lt-of-le, le-of-suc-le-suc}
 use native.Mathlib.Omega.{arith}
 use mathlib.Core.Path.{_≡_, refl, sym, ap, _∙_, subst, subst⁻¹}
 use mathlib.Core.Logic.{_⊎_, inl, inr}
-use lib.Count.{trailingZeros, under}
+use lib.Count.{trailingZeros, leadingZeros, leading-le, leading-length, under}
 use lib.Pow.{pow-pos}
-use Rattle.bits.specs.Bit.{bit, lowest, First}
+use Rattle.bits.specs.Bit.{bit, lowest, First, End}
 use Rattle.bits.proofs.BitLaws.{bit-zero, bit-suc, bit-cases, bit-of-zero, bit-ext}
 
 -- l is the lowest member of s below w, or w where there is none
@@ -86,3 +86,13 @@ first-of s l e h p =
       small = subst⁻¹ (λ (x : ℕ). x < 64) e (lowest-lt 64 s h p);
       member = subst⁻¹ (λ (x : ℕ). bit x s ≡ 1) e (bit-lowest 64 s h p);
     }
+
+-- what answers the end of a set
+pub zeros-fit : (s zeros : ℕ) → zeros ≡ leadingZeros 64 s → zeros ≤ 64
+zeros-fit s zeros e = omega (arith, e, leading-le 64 s)
+
+pub end-of : (s zeros : ℕ) → zeros ≡ leadingZeros 64 s → s < 2 ^ 64 → End s (64 - zeros)
+end-of s zeros e h =
+    let l = leading-length 64 s h in
+    let q : 64 - zeros ≡ l .0 = omega (arith, e, l .1) in
+    subst⁻¹ (λ (n : ℕ). End s n) q (record { small = omega (arith, l .1); above = l .2; least = l .3 })

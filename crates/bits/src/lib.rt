@@ -118,6 +118,13 @@ pub fn count(set: u64) -> usize
     place(u64::count_ones(set))
 }
 
+// The least number above all members.
+pub fn end(set: u64) -> usize
+    ensures { λ r. ⌜ sets.End set r ⌝ }
+{
+    64 - place(u64::leading_zeros(set))
+}
+
 // The lowest member of a set that is not empty.
 pub fn first(set: u64) -> usize
     requires { ⌜ 0 < set ⌝ }

@@ -8,7 +8,7 @@ use mathlib.Core.List.{List}
 use native.Mathlib.Omega.{arith}
 use lib.Dec.{T, T-not, not-T}
 use lib.ListN.{length}
-use Rattle.bits.specs.Bit.{hasb, remove, common, minus, raised, lowest, First}
+use Rattle.bits.specs.Bit.{hasb, remove, common, minus, raised, lowest, First, End}
 use Rattle.bits.proofs.BitLaws.{bit-has, bit-lacks, bit-below, bit-single-same, bit-single-other}
 use Rattle.bits.proofs.ShiftLaws.{has-raised, raised-low}
 use Rattle.bits.proofs.RestLaws.{rest-of}
@@ -18,10 +18,10 @@ use Rattle.basics.proofs.TestLaws.{tested, true-T, false-T, same-or-not, below-
 use Rattle.relations.specs.Paper.{Path⁺}
 use Rattle.relations.proofs.PathLaws.{path-join, path-map, path-into, path-first}
 use Rattle.closing.specs.Rows.{leads, Arc, Starts}
-use Rattle.closing.specs.Closure.{passed, ArcOf, Meeting, Closure, Stepped}
-use Rattle.closing.specs.Fours.{OfFour, Unions, rowByFour, passedFour}
+use Rattle.closing.specs.Closure.{rowBy, passed, ArcOf, Meeting, Closure, Anew, Stepped}
+use Rattle.closing.specs.Fours.{OfFour, Unions, rowByFour}
 use Rattle.closing.proofs.RewriteLaws.{still, gone}
-use Rattle.closing.proofs.PassLaws.{gets-through, passed-through}
+use Rattle.closing.proofs.PassLaws.{Through, anew-through, by-gets, passed-through}
 use Rattle.closing.proofs.FourLaws.{four-gets}
 
 -- ---- one middle alone
@@ -43,23 +43,22 @@ alone rows base here m only =
     along (Path⁺.more {a = a} {b = b} {c = c} p s) =
         subst (λ (y : ℕ). T (leads rows base y c)) (only b (s .0) ∙ sym (only a (path-first p .1 .0))) (s .1)
 
-single-step : (rows : List ℕ) (base among here m : ℕ) (after : List ℕ) → among < 2 ^ 64 → base + 64 ≤ length rows → T (hasb m here)
-    → ((i : ℕ) → T (hasb i here) → i ≡ m) → after ≡ passed rows base among m → Stepped rows base among here after
-single-step rows base among here m after small room member only e =
+-- as the code meets it: nothing but the first is there
+pub lone-step : (rows : List ℕ) (base count here m rest : ℕ) (after : List ℕ) → First here m → rest ≡ remove (lowest 64 here) here → rest ≡ 0
+    → Anew rows base (rowBy m (word rows (base + m))) count after → Stepped rows base count here after
+lone-step rows base count here m rest after f e z v =
     record {
       between = rows;
       closure = alone rows base here m only;
-      through = passed-through rows base among here m after small room member only e;
+      becomes = rowBy m (word rows (base + m));
+      gets = by-gets rows base here m (true-T _ (bit-has m here (f .member))) only;
+      anew = v;
     }
-
--- as the code meets it: nothing but the first is there
-pub lone-step : (rows : List ℕ) (base among here m rest : ℕ) (after : List ℕ) → among < 2 ^ 64 → base + 64 ≤ length rows → First here m
-    → rest ≡ remove (lowest 64 here) here → rest ≡ 0 → after ≡ passed rows base among m → Stepped rows base among here after
-lone-step rows base among here m rest after small room f e z h =
-    single-step rows base among here m after small room (true-T _ (bit-has m here (f .member)))
-    (λ i t.
-    ⊎-elim (λ q. q) (λ n. absurd (T-not (hasb i here) n t))
-    (gone m here i (subst (λ (y : ℕ). T (not (hasb i y))) (sym z ∙ rest-of here m rest f e) (none-left i)))) h
+  where
+    only : (i : ℕ) → T (hasb i here) → i ≡ m
+    only i t =
+        ⊎-elim (λ q. q) (λ n. absurd (T-not (hasb i here) n t))
+        (gone m here i (subst (λ (y : ℕ). T (not (hasb i y))) (sym z ∙ rest-of here m rest f e) (none-left i)))
 
 -- ---- some of four middles
 
@@ -67,17 +66,10 @@ lone-step rows base among here m rest after small room f e z h =
 pub whole-meeting : (rows : List ℕ) (base here : ℕ) → Meeting rows base here here
 whole-meeting rows base here = record { within = λ m t. t; meets = λ o j x n s t. absurd (T-not (hasb j here) n (t .0)) }
 
-pub four-step : (rows : List ℕ) (base among here k : ℕ) (between unions after : List ℕ) → among < 2 ^ 64 → base + 64 ≤ length rows → OfFour k here
-    → Closure rows base here between → Unions between base here k 16 unions → after ≡ passedFour between base among k unions
-    → Stepped rows base among here after
-unfolding passedFour
-four-step rows base among here k between unions after small room four w u e =
-    record {
-      between = between;
-      closure = w;
-      through = gets-through between base among here (rowByFour k unions) after small (omega (arith, w .size, room))
-          (four-gets between base here k unions four u) e;
-    }
+pub four-step : (rows : List ℕ) (base here k count : ℕ) (between unions after : List ℕ) → OfFour k here → Closure rows base here between
+    → Unions between base here k 16 unions → Anew between base (rowByFour k unions) count after → Stepped rows base count here after
+four-step rows base here k count between unions after four w u v =
+    record { between = between; closure = w; becomes = rowByFour k unions; gets = four-gets between base here k unions four u; anew = v }
 
 some-in : (m s : ℕ) → T (hasb m s) → 0 < s
 some-in m s t =
@@ -140,38 +132,36 @@ module _ (before : List ℕ) (base among : ℕ) where
       }
 
   -- A step by way of some middles: they are closed among themselves, and then every row that leads to one of them gets what that one leads to.
-  module _ (rows : List ℕ) (left here next : ℕ) (after : List ℕ) (w : Closing before base among left rows) (v : Stepped rows base among here after)
+  module _ (rows : List ℕ) (left here next : ℕ) (mid after : List ℕ) (w : Closing before base among left rows) (c : Closure rows base here mid)
+      (v : Through mid base among here after)
       (inside : (m : ℕ) → T (hasb m here) → T (hasb m left)) (still-left : (m : ℕ) → T (hasb m next) → T (hasb m left))
       (done : (m : ℕ) → T (not (hasb m next)) → T (hasb m here) ⊎ T (not (hasb m left))) where
-    abbrev mid : List ℕ
-    mid = v .between
-
     middle : (m : ℕ) → T (hasb m here) → T (hasb m among)
     middle m h = w .within m (inside m h)
 
     mid-keeps : (o x : ℕ) → T (leads rows base o x) → T (leads mid base o x)
     unfolding leads
     mid-keeps o x t =
-        ⊎-elim (λ h. v .closure .has o x (Path⁺.one (h, t))) (λ n. subst⁻¹ (λ (y : ℕ). T (hasb x y)) (v .closure .idle o n) t) (tested (hasb o here))
+        ⊎-elim (λ h. c .has o x (Path⁺.one (h, t))) (λ n. subst⁻¹ (λ (y : ℕ). T (hasb x y)) (c .idle o n) t) (tested (hasb o here))
 
     mid-idle : (o x : ℕ) → T (not (hasb o here)) → T (leads mid base o x) → T (leads rows base o x)
     unfolding leads
-    mid-idle o x n t = subst (λ (y : ℕ). T (hasb x y)) (v .closure .idle o n) t
+    mid-idle o x n t = subst (λ (y : ℕ). T (hasb x y)) (c .idle o n) t
 
     mid-sound : (o x : ℕ) → T (hasb o among) → T (leads mid base o x) → Path⁺ (ArcOf before base among) o x
     mid-sound o x i t =
-        ⊎-elim (λ h. path-into (λ c d s. w .sound c d (middle c (s .0)) (s .1)) (v .closure .sound o x h t))
+        ⊎-elim (λ h. path-into (λ c d s. w .sound c d (middle c (s .0)) (s .1)) (c .sound o x h t))
         (λ n. w .sound o x i (mid-idle o x n t)) (tested (hasb o here))
 
     -- two middles of the step
     mid-joins : (m n x : ℕ) → T (hasb m here) → T (hasb n here) → T (leads mid base m n) → T (leads mid base n x) → T (leads mid base m x)
-    mid-joins m n x h i s t = v .closure .has m x (path-join (v .closure .sound m n h s) (v .closure .sound n x i t))
+    mid-joins m n x h i s t = c .has m x (path-join (c .sound m n h s) (c .sound n x i t))
 
     -- a middle that was done before: the last arc of a path to it goes on from there
     mid-meets : (o j x : ℕ) → T (hasb o among) → T (hasb j among) → T (not (hasb j left)) → T (leads mid base o j) → T (leads mid base j x)
         → T (leads mid base o x)
     mid-meets o j x io ij n s t =
-        ⊎-elim (λ h. v .closure .has o x (onward (v .closure .sound o j h s)))
+        ⊎-elim (λ h. c .has o x (onward (c .sound o j h s)))
         (λ h. mid-keeps o x (w .meets o j x io ij n (mid-idle o j h s) from-it)) (tested (hasb o here))
       where
         from-it : T (leads rows base j x)
@@ -189,33 +179,33 @@ module _ (before : List ℕ) (base among : ℕ) where
     at-middle o j x io h s t = to-it s (⊎-elim (λ a. a) (λ b. mid-joins j (b .0) x h (b .1) (b .2) (b .3)) t)
       where
         to-it : Via o j → T (leads mid base j x) → T (leads after base o x)
-        to-it (inl a) t = v .through .by-way o j x io h a t
-        to-it (inr (m, i, a, b)) t = v .through .by-way o m x io i a (mid-joins m j x i h b t)
+        to-it (inl a) t = v .by-way o j x io h a t
+        to-it (inr (m, i, a, b)) t = v .by-way o m x io i a (mid-joins m j x i h b t)
 
     before-it : (o j x : ℕ) → T (hasb o among) → T (hasb j among) → T (not (hasb j left)) → Via o j → Via j x → T (leads after base o x)
-    before-it o j x io ij n (inl s) (inl t) = v .through .keeps o x io (mid-meets o j x io ij n s t)
-    before-it o j x io ij n (inl s) (inr (m, h, t, u)) = v .through .by-way o m x io h (mid-meets o j m io ij n s t) u
-    before-it o j x io ij n (inr (m, h, r, s)) (inl t) = v .through .by-way o m x io h r (mid-meets m j x (middle m h) ij n s t)
+    before-it o j x io ij n (inl s) (inl t) = v .keeps o x io (mid-meets o j x io ij n s t)
+    before-it o j x io ij n (inl s) (inr (m, h, t, u)) = v .by-way o m x io h (mid-meets o j m io ij n s t) u
+    before-it o j x io ij n (inr (m, h, r, s)) (inl t) = v .by-way o m x io h r (mid-meets m j x (middle m h) ij n s t)
     before-it o j x io ij n (inr (m, h, r, s)) (inr (q, i, t, u)) =
-        v .through .by-way o m x io h r (mid-joins m q x h i (mid-meets m j q (middle m h) ij n s t) u)
+        v .by-way o m x io h r (mid-joins m q x h i (mid-meets m j q (middle m h) ij n s t) u)
 
     closing-more : Closing before base among next after
     closing-more =
         record {
           room = w .room;
-          size = v .through .size ∙ (v .closure .size ∙ w .size);
-          outside = λ j out. v .through .outside j out ∙ (v .closure .outside j out ∙ w .outside j out);
+          size = v .size ∙ (c .size ∙ w .size);
+          outside = λ j out. v .outside j out ∙ (c .outside j out ∙ w .outside j out);
           idle = λ o n.
-              v .through .idle o n
-              ∙ (v .closure .idle o (not-T (hasb o here) (λ h. T-not (hasb o among) n (middle o h))) ∙ w .idle o n);
+              v .idle o n
+              ∙ (c .idle o (not-T (hasb o here) (λ h. T-not (hasb o among) n (middle o h))) ∙ w .idle o n);
           within = λ o t. w .within o (still-left o t);
-          keeps = λ o x i t. v .through .keeps o x i (mid-keeps o x (w .keeps o x i t));
+          keeps = λ o x i t. v .keeps o x i (mid-keeps o x (w .keeps o x i t));
           sound = λ o x i t.
               ⊎-elim (λ l. mid-sound o x i l) (λ l. path-join (mid-sound o (l .0) i (l .2)) (mid-sound (l .0) x (middle (l .0) (l .1)) (l .3)))
-              (v .through .sound o x i t);
+              (v .sound o x i t);
           meets = λ o j x io ij n s t.
-              let a = v .through .sound o j io s in
-              let b = v .through .sound j x ij t in
+              let a = v .sound o j io s in
+              let b = v .sound j x ij t in
               ⊎-elim (λ h. at-middle o j x io h a b) (λ m. before-it o j x io ij m a b) (done j n);
         }
 
@@ -223,21 +213,34 @@ module _ (before : List ℕ) (base among : ℕ) where
       → next ≡ remove (lowest 64 left) left → after ≡ passed rows base among m → Closing before base among next after
   closing-turn rows left m next after w small f e h =
       subst⁻¹ (λ (n : ℕ). Closing before base among n after) (rest-of left m next f e)
-      (closing-more rows left (2 ^ m) (remove m left) after w
-      (single-step rows base among (2 ^ m) m after small (omega (arith, w .size, w .room)) (single-has m) (single-only m) h)
+      (closing-more rows left (2 ^ m) (remove m left) rows after w (alone rows base (2 ^ m) m (single-only m))
+      (passed-through rows base among (2 ^ m) m after small (omega (arith, w .size, w .room)) (single-has m) (single-only m) h)
       (λ i t. subst⁻¹ (λ (n : ℕ). T (hasb n left)) (single-only m i t) (true-T _ (bit-has m left (f .member)))) (λ i t. still m left i t)
       (λ i t. ⊎-elim (λ q. inl (subst⁻¹ (λ (n : ℕ). T (hasb n (2 ^ m))) q (single-has m))) (λ q. inr q) (gone m left i t)))
 
-  pub closing-step : (rows : List ℕ) (left four here next : ℕ) (after : List ℕ) → Closing before base among left rows → here ≡ common left four
-      → next ≡ minus left here → Stepped rows base among here after → Closing before base among next after
-  closing-step rows left four here next after w e h v =
-      closing-more rows left here next after w v
-      (λ m t. common-both m left four (subst (λ (n : ℕ). T (hasb m n)) e t) .0)
+  pub closing-step : (rows : List ℕ) (left four here next count : ℕ) (after : List ℕ) → Closing before base among left rows → Starts before base among
+      → End among count → here ≡ common left four → next ≡ minus left here → Stepped rows base count here after → Closing before base among next after
+  unfolding leads
+  closing-step rows left four here next count after w starts end e h v =
+      closing-more rows left here next (v .between) after w (v .closure)
+      (anew-through (v .between) base among here count (v .becomes) after (v .gets) from end (v .anew)) inside
       (λ m t. minus-both m left here (subst (λ (n : ℕ). T (hasb m n)) h t) .0)
       (λ m t.
       ⊎-elim (λ i. inl i)
       (λ n. inr (not-T (hasb m left) (λ l. T-not (hasb m next) t (subst⁻¹ (λ (y : ℕ). T (hasb m y)) h (both-minus m left here l n)))))
       (tested (hasb m here)))
+    where
+      inside : (m : ℕ) → T (hasb m here) → T (hasb m left)
+      inside m t = common-both m left four (subst (λ (n : ℕ). T (hasb m n)) e t) .0
+
+      -- only rows of members are written, so every arc starts at one still
+      from : Starts (v .between) base among
+      from o x l t =
+          ⊎-elim (λ i. w .within o (inside o i))
+          (λ n.
+          ⊎-elim (λ i. i)
+          (λ m. starts o x l (subst (λ (y : ℕ). T (hasb x y)) (v .closure .idle o n ∙ w .idle o m) t)) (tested (hasb o among)))
+          (tested (hasb o here))
 
   pub closing-finish : (rows : List ℕ) (left : ℕ) → Closing before base among left rows → left ≡ 0 → Closure before base among rows
   closing-finish rows left w e =

@@ -10,15 +10,16 @@ use lib.Dec.{T, T-not, eqb}
 use lib.Pow.{pow-pos}
 use lib.ListN.{length, set, length-set, replicate}
 use lib.Seq.{getD-set-same, getD-set-other}
-use Rattle.bits.specs.Bit.{bit, hasb, insert, remove, union, lowest, First}
+use Rattle.bits.specs.Bit.{bit, hasb, insert, union}
 use Rattle.bits.proofs.BitLaws.{bit-above}
 use Rattle.bits.proofs.ShiftLaws.{bit-cut, bit-down}
 use Rattle.bits.proofs.MemberLaws.{hasb-below, insert-cases, insert-new, insert-old, union-cases, union-left, union-right, none-left}
 use Rattle.basics.specs.Lists.{word}
 use Rattle.basics.proofs.TestLaws.{below-or-not, below-suc, chosen, passed-over, tested}
-use Rattle.closing.specs.Fours.{OfFour, rowOf, Doubled, Unions, fourAt, rowByFour, passedFour}
+use Rattle.closing.specs.Fours.{OfFour, rowOf, Doubled, Unions, fourAt, rowByFour}
+use Rattle.closing.specs.Closure.{Anew, Gets}
 use Rattle.closing.specs.Rows.{leads}
-use Rattle.closing.proofs.PassLaws.{Passing, passing-turn, passing-finish, Gets}
+use Rattle.closing.proofs.PassLaws.{anew-turn}
 
 -- ---- the row of a member
 
@@ -133,18 +134,12 @@ pub four-is : (row k : ℕ) → row / 2 ^ k % 16 ≡ fourAt k row
 unfolding fourAt
 four-is row k = refl
 
-pub four-turn : (entry : List ℕ) (base among k : ℕ) (unions rows : List ℕ) (left o next i v : ℕ) → Passing entry base among (rowByFour k unions) rows left
-    → First left o → next ≡ remove (lowest 64 left) left → i ≡ fourAt k (word rows (base + o)) → v ≡ union (word rows (base + o)) (word unions i)
-    → Passing entry base among (rowByFour k unions) (set rows (base + o) v) next
+pub four-turn : (before : List ℕ) (base count k : ℕ) (unions : List ℕ) (o : ℕ) (rows : List ℕ) (i v : ℕ) → Anew before base (rowByFour k unions) o rows
+    → base + 64 ≤ length before → o < count → count ≤ 64 → i ≡ fourAt k (word rows (base + o)) → v ≡ union (word rows (base + o)) (word unions i)
+    → Anew before base (rowByFour k unions) (o + 1) (set rows (base + o) v)
 unfolding rowByFour
-four-turn entry base among k unions rows left o next i v w f e h q =
-    passing-turn entry base among (rowByFour k unions) rows left o next v w f e
-    (q ∙ ap (λ (n : ℕ). union (word rows (base + o)) (word unions n)) h)
-
-pub four-finish : (entry : List ℕ) (base among k : ℕ) (unions rows : List ℕ) (left : ℕ) → Passing entry base among (rowByFour k unions) rows left
-    → left ≡ 0 → rows ≡ passedFour entry base among k unions
-unfolding passedFour
-four-finish entry base among k unions rows left w e = passing-finish entry base among (rowByFour k unions) rows left w e
+four-turn before base count k unions o rows i v w h l m e q =
+    anew-turn before base (rowByFour k unions) o rows v w (omega arith) (q ∙ ap (λ (n : ℕ). union (word rows (base + o)) (word unions n)) e)
 
 pub four-gets : (rows : List ℕ) (base middles k : ℕ) (unions : List ℕ) → OfFour k middles → Unions rows base middles k 16 unions
     → Gets rows base middles (rowByFour k unions)

@@ -5,16 +5,17 @@ use mathlib.Core.Logic.{_⊎_, inl, inr, ⊎-elim}
 use mathlib.Core.Bool.{Bool, true, false, cond, not}
 use mathlib.Core.List.{List}
 use native.Mathlib.Omega.{arith}
-use lib.Dec.{T}
-use lib.ListN.{length, set}
-use Rattle.bits.specs.Bit.{hasb, union, remove, lowest, First}
+use lib.Dec.{T, T-not}
+use lib.ListN.{length, set, length-set}
+use lib.Seq.{getD-set-same, getD-set-other}
+use Rattle.bits.specs.Bit.{hasb, union, remove, lowest, First, End}
 use Rattle.bits.proofs.BitLaws.{bit-has}
 use Rattle.bits.proofs.RestLaws.{rest-of}
-use Rattle.bits.proofs.MemberLaws.{hasb-below, union-cases, union-left, union-right}
+use Rattle.bits.proofs.MemberLaws.{hasb-below, union-cases, union-left, union-right, none-left, no-member}
 use Rattle.basics.specs.Lists.{word}
-use Rattle.basics.proofs.TestLaws.{chosen, passed-over, tested, true-T}
-use Rattle.closing.specs.Rows.{leads, rewritten}
-use Rattle.closing.specs.Closure.{rowBy, passed, Through}
+use Rattle.basics.proofs.TestLaws.{chosen, passed-over, tested, true-T, below-or-not, below-suc}
+use Rattle.closing.specs.Rows.{leads, Starts, rewritten}
+use Rattle.closing.specs.Closure.{rowBy, passed, Anew, Gets}
 use Rattle.closing.proofs.RewriteLaws.{Rewriting, rewriting-start, next-same, turn, finish}
 use Rattle.closing.proofs.RewrittenLaws.{rewritten-length, rewritten-outside, rewritten-idle, rewritten-at}
 
@@ -45,32 +46,84 @@ module _ (entry : List ℕ) (base among : ℕ) (g : ℕ → ℕ) where
       → rows ≡ rewritten entry base among (λ o. g (word entry (base + o)))
   passing-finish rows left w e = finish entry base among _ rows left (w .rewriting) e
 
--- What a row becomes has what it had, and what each of some middles leads to that it leads to; and nothing else.
-pub record Gets (rows : List ℕ) (base middles : ℕ) (g : ℕ → ℕ) : Type 0 where
-  pub keeps : (row x : ℕ) → T (hasb x row) → T (hasb x (g row))
-  pub by-way : (row m x : ℕ) → T (hasb m middles) → T (hasb m row) → T (leads rows base m x) → T (hasb x (g row))
-  pub sound : (row x : ℕ) → T (hasb x (g row)) → T (hasb x row) ⊎ ((m : ℕ) × T (hasb m middles) × T (hasb m row) × T (leads rows base m x))
+-- ---- a loop over the first rows
 
-pub gets-through : (rows : List ℕ) (base among middles : ℕ) (g : ℕ → ℕ) (after : List ℕ) → among < 2 ^ 64 → base + 64 ≤ length rows
-    → Gets rows base middles g → after ≡ rewritten rows base among (λ o. g (word rows (base + o))) → Through rows base among middles after
+pub anew-start : (before : List ℕ) (base : ℕ) (g : ℕ → ℕ) → Anew before base g 0 before
+anew-start before base g = record { size = refl; new = λ o h. absurd (omega (arith, h)); rest = λ j o. refl }
+
+pub anew-turn : (before : List ℕ) (base : ℕ) (g : ℕ → ℕ) (o : ℕ) (rows : List ℕ) (v : ℕ) → Anew before base g o rows → base + o < length before
+    → v ≡ g (word rows (base + o)) → Anew before base g (o + 1) (set rows (base + o) v)
+anew-turn before base g o rows v w h e =
+    record {
+      size = length-set rows (base + o) v ∙ w .size;
+      new = λ i l. ⊎-elim (λ q. old i q) (λ q. now i q) (below-suc i o (omega (arith, l)));
+      rest = λ j out.
+          getD-set-other rows (base + o) j v 0 (λ q. ⊎-elim (λ a. omega (arith, q)) (λ a. omega (arith, q, a)) out)
+          ∙ w .rest j (⊎-elim (λ a. inl a) (λ a. inr (omega (arith, a))) out);
+    }
+  where
+    now : (i : ℕ) → i ≡ o → word (set rows (base + o) v) (base + i) ≡ g (word before (base + i))
+    now i q =
+        subst⁻¹ (λ (n : ℕ). word (set rows (base + o) v) (base + n) ≡ g (word before (base + n))) q
+        (getD-set-same rows (base + o) v 0 (omega (arith, w .size, h)) ∙ (e ∙ ap g (w .rest (base + o) (inr (omega arith)))))
+
+    old : (i : ℕ) → i < o → word (set rows (base + o) v) (base + i) ≡ g (word before (base + i))
+    old i h = getD-set-other rows (base + o) (base + i) v 0 (λ z. omega (arith, z)) ∙ w .new i h
+
+pub anew-finish : (before : List ℕ) (base count : ℕ) (g : ℕ → ℕ) (o : ℕ) (rows : List ℕ) → Anew before base g o rows → o ≤ count → count ≤ o
+    → Anew before base g count rows
+anew-finish before base count g o rows w h l = let e : o ≡ count = omega arith in subst (λ (n : ℕ). Anew before base g n rows) e w
+
+-- ---- what leads where afterwards
+
+-- the rows of a set with the paths by way of one of some middles, and every other word as it was
+pub record Through (before : List ℕ) (base among middles : ℕ) (after : List ℕ) : Type 0 where
+  pub size : length after ≡ length before
+  pub outside : (j : ℕ) → (j < base) ⊎ (base + 64 ≤ j) → word after j ≡ word before j
+  pub idle : (o : ℕ) → T (not (hasb o among)) → word after (base + o) ≡ word before (base + o)
+  pub keeps : (o x : ℕ) → T (hasb o among) → T (leads before base o x) → T (leads after base o x)
+  pub by-way : (o m x : ℕ) → T (hasb o among) → T (hasb m middles) → T (leads before base o m) → T (leads before base m x) → T (leads after base o x)
+  pub sound : (o x : ℕ) → T (hasb o among) → T (leads after base o x)
+      → T (leads before base o x) ⊎ ((m : ℕ) × T (hasb m middles) × T (leads before base o m) × T (leads before base m x))
+
+gets-through : (rows : List ℕ) (base among middles : ℕ) (g : ℕ → ℕ) (after : List ℕ) → Gets rows base middles g → length after ≡ length rows
+    → ((j : ℕ) → (j < base) ⊎ (base + 64 ≤ j) → word after j ≡ word rows j)
+    → ((o : ℕ) → T (not (hasb o among)) → word after (base + o) ≡ word rows (base + o))
+    → ((o : ℕ) → T (hasb o among) → word after (base + o) ≡ g (word rows (base + o))) → Through rows base among middles after
 unfolding leads
-gets-through rows base among middles g after small room w e =
-    subst⁻¹ (λ (s : List ℕ). Through rows base among middles s) e
-    (record {
-      size = rewritten-length rows base among _;
-      outside = λ j out. rewritten-outside rows base among _ j out;
-      idle = λ o n. rewritten-idle rows base among _ o n;
+gets-through rows base among middles g after w size outside idle is =
+    record {
+      size = size;
+      outside = outside;
+      idle = idle;
       keeps = λ o x i t. into o x i (w .keeps (word rows (base + o)) x t);
       by-way = λ o m x i h s t. into o x i (w .by-way (word rows (base + o)) m x h s t);
       sound = λ o x i t. w .sound (word rows (base + o)) x (subst (λ (y : ℕ). T (hasb x y)) (is o i) t);
-    })
+    }
   where
-    is : (o : ℕ) → T (hasb o among) → word (rewritten rows base among (λ o. g (word rows (base + o)))) (base + o) ≡ g (word rows (base + o))
-    is o i = let h = hasb-below 64 o among small i in rewritten-at rows base among _ o h (omega arith) i
-
-    into : (o x : ℕ) → T (hasb o among) → T (hasb x (g (word rows (base + o))))
-        → T (hasb x (word (rewritten rows base among (λ o. g (word rows (base + o)))) (base + o)))
+    into : (o x : ℕ) → T (hasb o among) → T (hasb x (g (word rows (base + o)))) → T (hasb x (word after (base + o)))
     into o x i t = subst⁻¹ (λ (y : ℕ). T (hasb x y)) (is o i) t
+
+-- where the first rows are written anew, those of no member are empty and stay so
+pub anew-through : (rows : List ℕ) (base among middles count : ℕ) (g : ℕ → ℕ) (after : List ℕ) → Gets rows base middles g → Starts rows base among
+    → End among count → Anew rows base g count after → Through rows base among middles after
+unfolding leads
+anew-through rows base among middles count g after w starts end v =
+    gets-through rows base among middles g after w (v .size)
+    (λ j out. v .rest j (⊎-elim (λ l. inl l) (λ l. inr (omega (arith, l, end .small))) out))
+    (λ o n.
+    ⊎-elim (λ h. v .new o h ∙ (ap g (empty o h n) ∙ (nothing ∙ sym (empty o h n)))) (λ h. v .rest (base + o) (inr (omega (arith, h))))
+    (below-or-not o count))
+    (λ o i. v .new o (hasb-below count o among (end .above) i))
+  where
+    empty : (o : ℕ) → o < count → T (not (hasb o among)) → word rows (base + o) ≡ 0
+    empty o h n =
+        no-member (word rows (base + o)) (λ x t. T-not (hasb o among) n (starts o x (omega (arith, h, end .small)) t))
+
+    nothing : g 0 ≡ 0
+    nothing =
+        no-member (g 0)
+        (λ x t. ⊎-elim (λ l. T-not (hasb x 0) (none-left x) l) (λ l. T-not (hasb (l .0) 0) (none-left (l .0)) (l .2)) (w .sound 0 x t))
 
 -- ---- one middle
 
@@ -88,6 +141,16 @@ unfolding passed
 passed-finish entry base among m onward rows left w e h =
     passing-finish entry base among (rowBy m (word entry (base + m))) rows left
     (subst (λ (n : ℕ). Passing entry base among (rowBy m n) rows left) h w) e
+
+pub first-turn : (before : List ℕ) (base count m onward o : ℕ) (rows : List ℕ) (v : ℕ) → Anew before base (rowBy m onward) o rows
+    → base + 64 ≤ length before → o < count → count ≤ 64 → v ≡ rowBy m onward (word rows (base + o))
+    → Anew before base (rowBy m onward) (o + 1) (set rows (base + o) v)
+first-turn before base count m onward o rows v w h l k e = anew-turn before base (rowBy m onward) o rows v w (omega arith) e
+
+pub first-finish : (before : List ℕ) (base count m onward o : ℕ) (rows : List ℕ) → Anew before base (rowBy m onward) o rows → o ≤ count → count ≤ o
+    → onward ≡ word before (base + m) → Anew before base (rowBy m (word before (base + m))) count rows
+first-finish before base count m onward o rows w h l e =
+    subst (λ (n : ℕ). Anew before base (rowBy m n) count rows) e (anew-finish before base count (rowBy m onward) o rows w h l)
 
 -- where m is the only middle
 pub by-gets : (rows : List ℕ) (base middles m : ℕ) → T (hasb m middles) → ((i : ℕ) → T (hasb i middles) → i ≡ m)
@@ -114,4 +177,7 @@ pub passed-through : (rows : List ℕ) (base among middles m : ℕ) (after : Lis
     → ((i : ℕ) → T (hasb i middles) → i ≡ m) → after ≡ passed rows base among m → Through rows base among middles after
 unfolding passed
 passed-through rows base among middles m after small room member only e =
-    gets-through rows base among middles (rowBy m (word rows (base + m))) after small room (by-gets rows base middles m member only) e
+    subst⁻¹ (λ (s : List ℕ). Through rows base among middles s) e
+    (gets-through rows base among middles (rowBy m (word rows (base + m))) _ (by-gets rows base middles m member only)
+    (rewritten-length rows base among _) (rewritten-outside rows base among _) (rewritten-idle rows base among _)
+    (λ o i. let h = hasb-below 64 o among small i in rewritten-at rows base among _ o h (omega arith) i))

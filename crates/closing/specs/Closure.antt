@@ -44,18 +44,23 @@ pub record Closure (before : List ℕ) (base among : ℕ) (after : List ℕ) : T
   pub sound : (o x : ℕ) → T (hasb o among) → T (leads after base o x) → Path⁺ (ArcOf before base among) o x
   pub has : (o x : ℕ) → Path⁺ (ArcOf before base among) o x → T (leads after base o x)
 
--- The rows of a set with the paths by way of one of some middles: a row that leads to it gets what it leads to. Every other word stays.
-pub record Through (before : List ℕ) (base among middles : ℕ) (after : List ℕ) : Type 0 where
+-- the first rows written anew: g says what a row becomes
+pub record Anew (before : List ℕ) (base : ℕ) (g : ℕ → ℕ) (count : ℕ) (after : List ℕ) : Type 0 where
   pub size : length after ≡ length before
-  pub outside : (j : ℕ) → (j < base) ⊎ (base + 64 ≤ j) → word after j ≡ word before j
-  pub idle : (o : ℕ) → T (not (hasb o among)) → word after (base + o) ≡ word before (base + o)
-  pub keeps : (o x : ℕ) → T (hasb o among) → T (leads before base o x) → T (leads after base o x)
-  pub by-way : (o m x : ℕ) → T (hasb o among) → T (hasb m middles) → T (leads before base o m) → T (leads before base m x) → T (leads after base o x)
-  pub sound : (o x : ℕ) → T (hasb o among) → T (leads after base o x)
-      → T (leads before base o x) ⊎ ((m : ℕ) × T (hasb m middles) × T (leads before base o m) × T (leads before base m x))
+  pub new : (o : ℕ) → o < count → word after (base + o) ≡ g (word before (base + o))
+  pub rest : (j : ℕ) → (j < base) ⊎ (base + count ≤ j) → word after j ≡ word before j
 
--- the same by way of any number of them: first they are closed among themselves
-pub record Stepped (before : List ℕ) (base among middles : ℕ) (after : List ℕ) : Type 0 where
+-- what a row becomes has what it had, and what each of some middles leads to that it leads to; and nothing else
+pub record Gets (rows : List ℕ) (base middles : ℕ) (g : ℕ → ℕ) : Type 0 where
+  pub keeps : (row x : ℕ) → T (hasb x row) → T (hasb x (g row))
+  pub by-way : (row m x : ℕ) → T (hasb m middles) → T (hasb m row) → T (leads rows base m x) → T (hasb x (g row))
+  pub sound : (row x : ℕ) → T (hasb x (g row)) → T (hasb x row) ⊎ ((m : ℕ) × T (hasb m middles) × T (hasb m row) × T (leads rows base m x))
+
+-- The first rows with the paths by way of some middles: these are closed among themselves, and every row that leads to one of them gets what that
+-- one leads to.
+pub record Stepped (before : List ℕ) (base count middles : ℕ) (after : List ℕ) : Type 0 where
   pub between : List ℕ
   pub closure : Closure before base middles between
-  pub through : Through between base among middles after
+  pub becomes : ℕ → ℕ
+  pub gets : Gets between base middles becomes
+  pub anew : Anew between base becomes count after

@@ -9,7 +9,6 @@ use lib.Dec.{T}
 use lib.ListN.{length}
 use Rattle.bits.specs.Bit.{hasb, union}
 use Rattle.basics.specs.Lists.{word}
-use Rattle.closing.specs.Rows.{rewritten}
 
 -- the members of a set are some of the four from k on
 abbrev pub OfFour : ℕ → ℕ → Type 0
@@ -38,7 +37,3 @@ fourAt k s = s / 2 ^ k % 2 ^ 4
 -- a row with the paths by way of the four from k on, by the table of their unions
 unfoldable pub rowByFour : ℕ → List ℕ → ℕ → ℕ
 rowByFour k unions row = union row (word unions (fourAt k row))
-
--- the rows of a set with them
-unfoldable pub passedFour : List ℕ → ℕ → ℕ → ℕ → List ℕ → List ℕ
-passedFour rows base among k unions = rewritten rows base among (λ o. rowByFour k unions (word rows (base + o)))

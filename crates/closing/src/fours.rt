@@ -3,6 +3,7 @@ ghost use mathlib.Core.Path.{_≡_};
 ghost use Prim.Native.Nat.{_+_, _*_, _/_, _%_, _^_, _≤_, _<_};
 ghost use lib.ListN.{length};
 ghost use Rattle.bits.specs.Bit as sets;
+ghost use Rattle.closing.specs.Closure as closure;
 ghost use Rattle.closing.specs.Fours as spec;
 
 // The first of the four that m is one of.
@@ -64,15 +65,12 @@ fn which(row: u64, k: usize) -> usize
     ((row >> k) % 16) as usize
 }
 
-// The paths by way of the four from k on: each row of a set gets the union of the rows that it leads to.
-pub fn pass(rows: &mut [u64], base: usize, among: u64, k: usize, unions: &[u64; 16])
-    requires { ⌜ (base + 64 ≤ length (now rows)) × (k ≤ 60) ⌝ }
-    ensures { λ _. ⌜ now (rows .exit) ≡ spec.passedFour (now (rows .entry)) base among k (now (unions .entry)) ⌝ }
+// The paths by way of the four from k on: each of so many rows gets the union of the rows that it leads to. An empty row stays empty.
+pub fn pass(rows: &mut [u64], base: usize, count: usize, k: usize, unions: &[u64; 16])
+    requires { ⌜ (base + 64 ≤ length (now rows)) × ((count ≤ 64) × (k ≤ 60)) ⌝ }
+    ensures { λ _. ⌜ closure.Anew (now (rows .entry)) base (spec.rowByFour k (now (unions .entry))) count (now (rows .exit)) ⌝ }
 {
-    let mut left = among;
-    while left != 0 {
-        let o = bits::first(left);
-        left = bits::rest(left);
+    for o in 0..count {
         let row = rows[base + o];
         rows[base + o] = bits::union(row, unions[which(row, k)]);
     }

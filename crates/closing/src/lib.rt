@@ -5,6 +5,7 @@ ghost use mathlib.Core.Path.{_≡_};
 ghost use Prim.Native.Nat.{_+_, _≤_, _<_};
 ghost use lib.ListN.{length};
 ghost use Rattle.bits.specs.Bit.{field, raised};
+ghost use Rattle.basics.specs.Lists.{word};
 ghost use Rattle.closing.specs.Rows as spec;
 ghost use Rattle.closing.specs.Closure as closure;
 ghost use Rattle.closing.specs.Fours as four;
@@ -58,6 +59,17 @@ fn pass(rows: &mut [u64], base: usize, among: u64, m: usize)
     }
 }
 
+// The same for the first rows, of which there are so many.
+fn pass_first(rows: &mut [u64], base: usize, count: usize, m: usize)
+    requires { ⌜ (base + 64 ≤ length (now rows)) × ((count ≤ 64) × (m < 64)) ⌝ }
+    ensures { λ _. ⌜ closure.Anew (now (rows .entry)) base (closure.rowBy m (word (now (rows .entry)) (base + m))) count (now (rows .exit)) ⌝ }
+{
+    let onward = rows[base + m];
+    for o in 0..count {
+        rows[base + o] = by(rows[base + o], m, onward);
+    }
+}
+
 // The members of a set that a path can go by way of: a member leads to them, and they lead on.
 pub fn inner(rows: &[u64], base: usize, among: u64) -> u64
     requires { ⌜ base + 64 ≤ length (now rows) ⌝ }
@@ -93,41 +105,44 @@ fn close_singly(rows: &mut [u64], base: usize, among: u64, middles: u64)
 
 // The paths by way of middles that are some of the four from k on: these are closed among themselves, and what they lead to is put together for
 // each choice of them, so that every row gets all that it is to get at once.
-fn pass_four(rows: &mut [u64], base: usize, among: u64, here: u64, k: usize)
-    requires { ⌜ (base + 64 ≤ length (now rows)) × (k ≤ 60) ⌝ }
+fn pass_four(rows: &mut [u64], base: usize, count: usize, here: u64, k: usize)
+    requires { ⌜ (base + 64 ≤ length (now rows)) × ((count ≤ 64) × (k ≤ 60)) ⌝ }
     requires { ⌜ four.OfFour k here ⌝ }
-    ensures { λ _. ⌜ closure.Stepped (now (rows .entry)) base among here (now (rows .exit)) ⌝ }
+    ensures { λ _. ⌜ closure.Stepped (now (rows .entry)) base count here (now (rows .exit)) ⌝ }
 {
     close_singly(rows, base, here, here);
     let unions = fours::unions(rows, base, here, k);
-    fours::pass(rows, base, among, k, &unions);
+    fours::pass(rows, base, count, k, &unions);
 }
 
-// The same for middles of which there may be one alone, which has nothing to be put together with.
-fn step(rows: &mut [u64], base: usize, among: u64, here: u64, k: usize)
-    requires { ⌜ (base + 64 ≤ length (now rows)) × ((k ≤ 60) × (0 < here)) ⌝ }
+// The same for any number of them: one alone has nothing to be put together with.
+fn step(rows: &mut [u64], base: usize, count: usize, here: u64, k: usize)
+    requires { ⌜ (base + 64 ≤ length (now rows)) × ((count ≤ 64) × ((k ≤ 60) × (0 < here))) ⌝ }
     requires { ⌜ four.OfFour k here ⌝ }
-    ensures { λ _. ⌜ closure.Stepped (now (rows .entry)) base among here (now (rows .exit)) ⌝ }
+    ensures { λ _. ⌜ closure.Stepped (now (rows .entry)) base count here (now (rows .exit)) ⌝ }
 {
     if bits::rest(here) == 0 {
-        pass(rows, base, among, bits::first(here));
+        pass_first(rows, base, count, bits::first(here));
         return;
     }
-    pass_four(rows, base, among, here, k);
+    pass_four(rows, base, count, here, k);
 }
 
-// Closes the rows of a set in place, by up to four middles at a time.
+// Closes the rows of a set in place, by up to four middles at a time. Every arc starts at a member, so that rows of no member are empty and can be
+// gone through with the others.
 pub fn close(rows: &mut [u64], base: usize, among: u64, middles: u64)
     requires { ⌜ base + 64 ≤ length (now rows) ⌝ }
     requires { ⌜ closure.Meeting (now rows) base among middles ⌝ }
+    requires { ⌜ spec.Starts (now rows) base among ⌝ }
     ensures { λ _. ⌜ closure.Closure (now (rows .entry)) base among (now (rows .exit)) ⌝ }
 {
+    let count = bits::end(among);
     let mut left = middles;
     while left != 0 {
         let k = fours::start(bits::first(left));
         let here = bits::common(left, fours::four_from(k));
         left = bits::minus(left, here);
-        step(rows, base, among, here, k);
+        step(rows, base, count, here, k);
     }
 }
 

@@ -58,12 +58,17 @@ pub closes-same : (before : List ℕ) (base among : ℕ) (arc other : ℕ → �
 closes-same before base among arc other after v forth back =
     record { grown = grown-same before base arc other after (v .grown) forth back; kept = v .kept }
 
--- arcs between occurrences, added to rows between these and closed
+-- arcs between occurrences, added to rows between these
+pub grown-starts : (before : List ℕ) (base among : ℕ) (arc : ℕ → ℕ → Type 0) (mid : List ℕ) → Kept before base among → Inside among arc
+    → Grown before base arc mid → Starts mid base among
+grown-starts before base among arc mid k inside m o x h t =
+    let s = path-first (m .sound o x h t) in ⊎-elim (λ y. k .from o (s .0) (y .0) (y .1)) (λ y. inside o (s .0) y .0) (s .1)
+
+-- and closed
 module _ (before : List ℕ) (base among : ℕ) (arc : ℕ → ℕ → Type 0) (mid after : List ℕ) (k : Kept before base among) (small : among < 2 ^ 64)
     (inside : Inside among arc) (m : Grown before base arc mid) (w : Closure mid base among after) where
   starts : Starts mid base among
-  starts o x h t =
-      let s = path-first (m .sound o x h t) in ⊎-elim (λ y. k .from o (s .0) (y .0) (y .1)) (λ y. inside o (s .0) y .0) (s .1)
+  starts = grown-starts before base among arc mid k inside m
 
   ends : (o x : ℕ) → Arc mid base o x → T (hasb x among)
   ends o x t =

@@ -5,10 +5,13 @@ use Rattle.closing.proofs.close.Statement.{statement}
 use Rattle.closing.proofs.close.Tie as tie
 
 abbrev Inv-loop : tie.InvT-loop
-Inv-loop rows₀ base among middles left₀ rows left = Closing rows₀ base among left rows
+Inv-loop rows₀ base among middles count left₀ rows left = Closing rows₀ base among left rows
 
 abbrev μ-loop : tie.MeasureT-loop
-μ-loop rows₀ base among middles left₀ rows left = left
+μ-loop rows₀ base among middles count left₀ rows left = left
+
+end-requires : tie.Need-end-requires Inv-loop μ-loop
+end-requires c κs = search needs
 
 loop-holds : tie.Need-loop-holds Inv-loop μ-loop
 loop-holds c = search closing-start
@@ -29,7 +32,7 @@ minus-requires : tie.Need-minus-requires Inv-loop μ-loop
 minus-requires c κs = search needs
 
 step-requires : tie.Need-step-requires Inv-loop μ-loop
-step-requires c κs = ((search needs, (search needs, search some-here)), search of-four)
+step-requires c κs = ((search needs, (search needs, (search needs, search some-here))), search of-four)
 
 loop-less : tie.Need-loop-less Inv-loop μ-loop
 loop-less c = search fewer-left
@@ -49,6 +52,7 @@ close-spec =
     (tie.spec
     Inv-loop
     μ-loop
+    end-requires
     loop-holds
     first-requires
     start-requires

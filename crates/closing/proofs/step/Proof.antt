@@ -10,8 +10,8 @@ rest-requires c κs = search needs
 first-requires : tie.Need-first-requires
 first-requires c κs = search needs
 
-pass-requires : tie.Need-pass-requires
-pass-requires c κs = search needs
+pass-first-requires : tie.Need-pass-first-requires
+pass-first-requires c κs = search needs
 
 same-length : tie.Need-same-length
 same-length c = search needs
@@ -34,7 +34,7 @@ step-spec =
     (tie.spec
     rest-requires
     first-requires
-    pass-requires
+    pass-first-requires
     same-length
     returns
     pass-four-requires

@@ -1,26 +1,21 @@
--- The invariant: the rows of the members that are no longer left have got their union, and the others are as they were.
+-- The invariant: as many rows as the loop has gone through have got their union, and the other words are as they were.
 use borrow.Author.Needs.{needs}
+use Prim.Native.Nat.{_≤_, _-_}
+use Rattle.closing.specs.Closure.{Anew}
 use Rattle.closing.specs.Fours.{rowByFour}
-use Rattle.closing.proofs.RewriteLaws.{rest-less}
-use Rattle.closing.proofs.PassLaws.{Passing, passing-start}
-use Rattle.closing.proofs.FourLaws.{four-turn, four-finish}
+use Rattle.closing.proofs.PassLaws.{anew-start, anew-finish}
+use Rattle.closing.proofs.FourLaws.{four-turn}
 use Rattle.closing.proofs.fours.pass.Statement.{statement}
 use Rattle.closing.proofs.fours.pass.Tie as tie
 
 abbrev Inv-loop : tie.InvT-loop
-Inv-loop rows₀ base among k unions left₀ rows left = Passing rows₀ base among (rowByFour k unions) rows left
+Inv-loop rows₀ base count k unions o₀ rows o = (o ≤ count) × Anew rows₀ base (rowByFour k unions) o rows
 
 abbrev μ-loop : tie.MeasureT-loop
-μ-loop rows₀ base among k unions left₀ rows left = left
+μ-loop rows₀ base count k unions o₀ rows o = count - o
 
 loop-holds : tie.Need-loop-holds Inv-loop μ-loop
-loop-holds c = search passing-start
-
-first-requires : tie.Need-first-requires Inv-loop μ-loop
-first-requires c κs = search needs
-
-rest-requires : tie.Need-rest-requires Inv-loop μ-loop
-rest-requires c κs = search needs
+loop-holds c = (search needs, search anew-start)
 
 add-row : tie.Need-add-row Inv-loop μ-loop
 add-row c = search needs
@@ -52,17 +47,20 @@ mul-rows c = search needs
 slice-write-rows : tie.Need-slice-write-rows Inv-loop μ-loop
 slice-write-rows c = search needs
 
+add-o : tie.Need-add-o Inv-loop μ-loop
+add-o c = search needs
+
 loop-less : tie.Need-loop-less Inv-loop μ-loop
-loop-less c = search rest-less
+loop-less c = search needs
 
 loop-again : tie.Need-loop-again Inv-loop μ-loop
-loop-again c = search four-turn
+loop-again c = (search needs, search four-turn)
 
 same-length : tie.Need-same-length Inv-loop μ-loop
 same-length c = search needs
 
 returns : tie.Need-returns Inv-loop μ-loop
-returns c = search four-finish
+returns c = search anew-finish
 
 pub pass-spec : {M : Type 1} → statement M
 pass-spec =
@@ -71,8 +69,6 @@ pass-spec =
     Inv-loop
     μ-loop
     loop-holds
-    first-requires
-    rest-requires
     add-row
     mul-row
     slice-read-row
@@ -83,6 +79,7 @@ pass-spec =
     add-rows
     mul-rows
     slice-write-rows
+    add-o
     loop-less
     loop-again
     same-length

@@ -1,7 +1,7 @@
 -- The functions speak of occurrences, so the arcs that are marked lie between these, and so do all paths.
 use borrow.Author.Needs.{needs}
 use Rattle.closing.proofs.InnerLaws.{inner-meeting}
-use Rattle.inducing.proofs.GrownLaws.{grown-closes}
+use Rattle.inducing.proofs.GrownLaws.{grown-starts, grown-closes}
 use Rattle.inducing.proofs.FillLaws.{functions-small, functions-inside}
 use Rattle.inducing.proofs.dp.fill_rule.Statement.{statement}
 use Rattle.inducing.proofs.dp.fill_rule.Tie as tie
@@ -13,7 +13,7 @@ inner-requires : tie.Need-inner-requires
 inner-requires c κs = search needs
 
 close-requires : tie.Need-close-requires
-close-requires c κs = (search needs, search inner-meeting)
+close-requires c κs = (search needs, (search inner-meeting, search (grown-starts, functions-inside)))
 
 same-length : tie.Need-same-length
 same-length c = search needs
