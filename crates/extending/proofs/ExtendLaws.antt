@@ -40,8 +40,7 @@ use Rattle.inducing.specs.Arcs.{SpreadArc, ArcsFit}
 use Rattle.inducing.specs.Rules.{occurrencesOf, Holds, Frame}
 use Rattle.inducing.proofs.RowLaws.{over-leads, over-below}
 use Rattle.inducing.proofs.RuleRowLaws.{counts, occurs-among, standing, attribute-among, among-small}
-use Rattle.inducing.proofs.HoldsLaws.{frame-none, frame-then, frame-turn, holds-lower, holds-turn, holds-rows}
-use Rattle.inducing.proofs.FillingLaws.{idp-trans, closes-at}
+use Rattle.inducing.proofs.HoldsLaws.{frame-none, frame-then, frame-turn, holds-lower, holds-turn, holds-rows, idp-trans, closes-at}
 use Rattle.extending.specs.Descents.{orderOf, numbers, Down}
 use Rattle.extending.proofs.DescentLaws.{descent-from, descent-has}
 

@@ -30,7 +30,7 @@ use Rattle.closing.specs.Rows.{leads, arcsAt}
 use Rattle.closing.proofs.GatherLaws.{arc-at}
 use Rattle.plans.specs.Buffers.{over, rowsOf}
 use Rattle.plans.specs.Answer.{idpPaths}
-use Rattle.inducing.specs.Rules.{Holds, Frame, Cleared, Filled, Arcs, Standing}
+use Rattle.inducing.specs.Rules.{Holds, Frame, Cleared, Arcs, Standing}
 use Rattle.inducing.specs.Stale.{Fresh, Stale}
 use Rattle.inducing.proofs.RuleRowLaws.{counts}
 use Rattle.inducing.proofs.HoldsLaws.{frame-then, path-leads, holds-rows}
@@ -65,7 +65,7 @@ module _ (g : List ℕ) (good : readTable g ≡ Good) where
   past-symbols ids f x h =
       let z : word ids x < 2 ^ 0 = small-set 0 (word ids x) (λ k t. absurd (let l = ids-symbol g formed (f x k t) in omega arith)) in omega arith
 
-  module _ (entry rows ids : List ℕ) (w : Standing g rows ids) (f : Frame g entry rows) (v : (r : ℕ) → r < rules g → Fresh g rows ids r) where
+  module _ (entry rows ids : List ℕ) (w : Standing g (rules g) rows ids) (f : Frame g entry rows) (v : (r : ℕ) → r < rules g → Fresh g rows ids r) where
     -- the state, a word for each symbol
     s : List ℕ
     s = take (symbols g) ids
@@ -111,7 +111,7 @@ module _ (g : List ℕ) (good : readTable g ≡ Good) where
 
     arc-leads : (r c d : ℕ) → r < rules g → T (idp g s r c d) → (c < 64) × T (leads rows (64 * r) c d)
     unfolding idp
-    arc-leads r c d h t = ⊎-elim (λ u. w .holds .has r c d h (dp-sound g r c d u)) (λ u. induced-leads r c d h u) (or-cases _ _ t)
+    arc-leads r c d h t = ⊎-elim (λ u. w .holds .has r c d h (h, dp-sound g r c d u)) (λ u. induced-leads r c d h u) (or-cases _ _ t)
 
     -- so the rows lie between the computed arcs and IDP
     computed : Holds g (λ r a b. T (idp g s r a b)) (λ r a b. IDP⁺ g r a b) rows
@@ -162,13 +162,12 @@ module _ (g : List ℕ) (good : readTable g ≡ Good) where
         (λ r o b h t. paths-complete g formed s s-closed (idp-path-exact g good r o b (counts g good r h) .0 t))
         (λ r o b h p. idp-path-exact g good r o b (counts g good r h) .1 p)
 
-  -- the rows that were lent, then cleared, then filled, then settled
-  module _ (entry cleared filled rows ids : List ℕ) (n : ℕ) (e : n ≡ rules g) (c : Cleared (64 * n) entry cleared) (f : Filled g cleared filled)
-      (w : Stale g filled 0 rows ids) where
+  -- the rows that were lent, then cleared, then gone through
+  module _ (entry cleared rows ids : List ℕ) (n : ℕ) (e : n ≡ rules g) (c : Cleared (64 * n) entry cleared) (w : Stale g cleared (rules g) 0 rows ids) where
     frame-all : Frame g entry rows
     frame-all =
         let d : Cleared (64 * rules g) entry cleared = cleared-rules g entry cleared n e c in
-        frame-then g entry filled rows (frame-then g entry cleared filled (record { size = d .size; rest = d .rest }) (f .frame)) (w .frame)
+        frame-then g entry cleared rows (record { size = d .size; rest = d .rest }) (w .frame)
 
     all-fresh : (r : ℕ) → r < rules g → Fresh g rows ids r
     all-fresh r h = w .fresh r h (λ t. T-not (hasb r 0) (none-left r) t)

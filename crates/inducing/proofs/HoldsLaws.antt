@@ -6,15 +6,19 @@ use mathlib.Core.Logic.{_⊎_, inl, inr, ⊎-elim}
 use mathlib.Core.Bool.{Bool}
 use mathlib.Core.List.{List}
 use native.Mathlib.Omega.{arith}
-use lib.Dec.{T}
-use lib.ListN.{length}
-use Rattle.bits.proofs.MemberLaws.{small-set}
+use lib.Dec.{T, T-not}
+use lib.ListN.{length, getD}
+use Rattle.bits.proofs.MemberLaws.{small-set, none-left}
 use Rattle.bits.specs.Bit.{hasb}
 use Rattle.basics.specs.Lists.{word}
 use Rattle.basics.proofs.TestLaws.{same-or-not, below-or-not, same-test}
-use Rattle.grammar.specs.Table.{rules}
-use Rattle.relations.specs.Paper.{Path⁺}
-use Rattle.relations.proofs.PathLaws.{path-map, path-closed}
+use Rattle.grammar.specs.Table.{rules, ruleAt}
+use Rattle.relations.specs.Paper.{Path⁺, IDP⁺}
+use Rattle.relations.proofs.PathLaws.{path-join, path-map, path-closed}
+use Rattle.relations.proofs.Least.{idp-paths, paths-idp}
+use Rattle.access.specs.Offsets.{RuleOf}
+use Rattle.access.specs.ByPlace.{occurrencesAt}
+use Rattle.access.proofs.Accessors.{rule-starts}
 use Rattle.closing.specs.Rows.{leads, Kept}
 use Rattle.inducing.specs.Closes.{Closes}
 use Rattle.plans.specs.Buffers.{over, rowsOf}
@@ -95,6 +99,26 @@ module _ (g : List ℕ) (lower more upper : ℕ → ℕ → ℕ → Type 0) (tra
             (λ d. w .within r o x l m (subst (λ (b : Bool). T b) (rows-other rows after q (occurrencesOf g q) arc u r o x d m) t)) (same-or-not r q);
       }
 
+-- empty rows, which have nothing
+pub holds-none : (g : List ℕ) (lower upper : ℕ → ℕ → ℕ → Type 0) (rows : List ℕ) → 64 * rules g ≤ length rows
+    → ((j : ℕ) → j < 64 * rules g → word rows j ≡ 0) → ((r a b : ℕ) → lower r a b → ⊥) → Holds g lower upper rows
+unfolding leads
+holds-none g lower upper rows room zeros nothing =
+    record {
+      room = room;
+      kept = λ r h. record {
+        room = omega arith;
+        closed = λ o m x ho hm s t. absurd (none r o m h ho s);
+        from = λ o x ho t. absurd (none r o x h ho t);
+        to = λ o x ho t. absurd (none r o x h ho t);
+      };
+      has = λ r a b h d. absurd (nothing r a b d);
+      within = λ r o x h l t. absurd (none r o x h l t);
+    }
+  where
+    none : (r o x : ℕ) → r < rules g → o < 64 → T (hasb x (word rows (64 * r + o))) → ⊥
+    none r o x h l t = T-not (hasb x 0) (none-left x) (subst (λ (s : ℕ). T (hasb x s)) (zeros (64 * r + o) (omega arith)) t)
+
 -- The rows have every path of what they have; so where they stay within those paths, they hold exactly them.
 module _ (g : List ℕ) (lower upper : ℕ → ℕ → ℕ → Type 0) (rows : List ℕ) (w : Holds g lower upper rows) where
   pub path-leads : (r : ℕ) → r < rules g → {c d : ℕ} → Path⁺ (lower r) c d → (c < 64) × T (leads rows (64 * r) c d)
@@ -119,3 +143,20 @@ module _ (g : List ℕ) (lower upper : ℕ → ℕ → ℕ → Type 0) (rows : L
       rows-are g paths entry rows (f .size) (omega (arith, w .room, f .size)) (f .rest) row-small
       (λ r o b h l m.
       same-test (leads rows (64 * r) o b) (paths r o b) (λ t. up r o b h (w .within r o b h l t)) (λ t. path-leads r h (down r o b h t) .1))
+
+-- ---- the rows of the rule at a word
+
+pub idp-trans : (g : List ℕ) (r a b c : ℕ) → IDP⁺ g r a b → IDP⁺ g r b c → IDP⁺ g r a c
+idp-trans g r a b c p q = paths-idp g (path-join (idp-paths g p) (idp-paths g q))
+
+-- a set of arcs is added to the rows of the rule at word p, which is rule r
+pub closes-at : (g : List ℕ) (rows after : List ℕ) (r p among : ℕ) (arc : ℕ → ℕ → ℕ → Type 0) → p ≡ ruleAt g r → among ≡ occurrencesAt g p
+    → Closes rows (64 * r) among (arc p) after → Closes rows (64 * r) (occurrencesOf g r) (arc (ruleAt g r)) after
+closes-at g rows after r p among arc e a u =
+    subst (λ (q : ℕ). Closes rows (64 * r) (occurrencesAt g q) (arc q) after) e (subst (λ (s : ℕ). Closes rows (64 * r) s (arc p) after) a u)
+
+-- the rows of a rule are kept for the occurrences that its words name
+pub kept-here : (g offsets rows : List ℕ) (r p among : ℕ) → RuleOf g offsets r → p ≡ getD offsets r 0 → among ≡ occurrencesAt g p
+    → Kept rows (64 * r) (occurrencesOf g r) → Kept rows (64 * r) among
+kept-here g offsets rows r p among w e a k =
+    subst⁻¹ (λ (s : ℕ). Kept rows (64 * r) s) (a ∙ ap (occurrencesAt g) (rule-starts g offsets r w p e)) k

@@ -7,7 +7,6 @@ pub mod JoinLaws
 pub mod SpreadLaws
 pub mod RuleRowLaws
 pub mod HoldsLaws
-pub mod FillingLaws
 pub mod ClearLaws
 pub mod NamingLaws
 pub mod GatheringLaws

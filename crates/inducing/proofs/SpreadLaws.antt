@@ -2,7 +2,7 @@
 -- Assumes nothing.
 use Prim.Native.Nat.{ℕ, _+_, _*_, _/_, _%_, _^_, _≤_, _<_}
 use mathlib.Core.Path.{_≡_, ap, subst, subst⁻¹}
-use mathlib.Core.Logic.{inl, inr, ⊎-elim}
+use mathlib.Core.Logic.{_⊎_, inl, inr, ⊎-elim}
 use mathlib.Core.Bool.{Bool}
 use mathlib.Core.List.{List}
 use native.Mathlib.Omega.{arith}
@@ -12,13 +12,15 @@ use Rattle.bits.specs.Bit.{hasb}
 use Rattle.bits.proofs.MemberLaws.{hasb-below, none-left}
 use Rattle.basics.specs.Lists.{word}
 use Rattle.basics.proofs.TestLaws.{below-suc, and-right}
-use Rattle.grammar.specs.Table.{attributes, lengthAt}
+use Rattle.grammar.specs.Table.{attributes, lengthAt, functionsAt}
 use Rattle.access.specs.ByPlace.{symbolFrom}
 use Rattle.closing.specs.Rows.{leads, arcsAt, Kept}
 use Rattle.closing.proofs.GatherLaws.{arc-at, arcs-lt}
 use Rattle.closing.specs.Closure.{Meeting}
-use Rattle.inducing.specs.Closes.{Inside, Joined, ArcAt}
-use Rattle.inducing.specs.Arcs.{SpreadArc, Ruled, ArcsFit}
+use Rattle.inducing.specs.Closes.{Inside, Grown, Marked, Joined, ArcAt}
+use Rattle.inducing.specs.Arcs.{RuleArc, SpreadArc, OpeningArc, ofRule, ofSymbol, Ruled, FunctionsFit, ArcsFit}
+use Rattle.inducing.proofs.GrownLaws.{grown-then}
+use Rattle.inducing.proofs.FillLaws.{functions-inside}
 use Rattle.inducing.proofs.JoinLaws.{joined-there, joined-then}
 
 -- an arc that is gathered at a position: it starts at an attribute there, and the rows lead along it
@@ -64,11 +66,11 @@ module _ (entry : List ℕ) (base : ℕ) (g : List ℕ) (p : ℕ) (arcs : List �
   spread-finish rows n i more v e h l =
       let q : i ≡ lengthAt g p + 1 = omega arith in subst (λ (j : ℕ). Joined entry 0 base (SpreadArc g p arcs j) rows more) q v
 
-  -- the ends of the arcs of the symbols are occurrences
-  pub spread-inside : (among : ℕ) → ArcsFit g p among arcs → Inside among (SpreadArc g p arcs (lengthAt g p + 1))
-  spread-inside among f c d s =
-      let t = f (s .place) (omega (arith, s .placeFits)) (s .arc .number) (s .arc .member) in
-      (subst⁻¹ (λ (o : ℕ). T (hasb o among)) (s .arc .start) (t .0), subst⁻¹ (λ (o : ℕ). T (hasb o among)) (s .arc .end) (t .1))
+-- the ends of the arcs of the symbols are occurrences
+pub spread-inside : (g : List ℕ) (p : ℕ) (arcs : List ℕ) (among : ℕ) → ArcsFit g p among arcs → Inside among (SpreadArc g p arcs (lengthAt g p + 1))
+spread-inside g p arcs among f c d s =
+    let t = f (s .place) (omega (arith, s .placeFits)) (s .arc .number) (s .arc .member) in
+    (subst⁻¹ (λ (o : ℕ). T (hasb o among)) (s .arc .start) (t .0), subst⁻¹ (λ (o : ℕ). T (hasb o among)) (s .arc .end) (t .1))
 
 -- Arcs between occurrences that are added to closed rows: paths meet at every occurrence but those from which arcs start.
 pub joined-meeting : (before : List ℕ) (base among : ℕ) (arc : ℕ → ℕ → Type 0) (after : List ℕ) (starts : ℕ) → Kept before base among → among < 2 ^ 64
@@ -80,3 +82,20 @@ joined-meeting before base among arc after starts k small inside w =
       meets = λ o j x n s t.
           w .met (λ c i y hc hi l p q. k .closed c i y hc hi p q) o j x (hasb-below 64 o among small (s .0)) (hasb-below 64 j among small (t .0)) n (s .1) (t .1);
     }
+
+-- The arcs of the functions and of the symbols, added to the rows of a rule that are not closed in between.
+opening-parts : (g : List ℕ) (p : ℕ) (arcs : List ℕ) (c d : ℕ) → OpeningArc g p arcs c d
+    → RuleArc g p (functionsAt g p) c d ⊎ SpreadArc g p arcs (lengthAt g p + 1) c d
+opening-parts g p arcs c d (ofRule s) = inl s
+opening-parts g p arcs c d (ofSymbol s) = inr s
+
+pub opening-grown : (before : List ℕ) (base : ℕ) (g : List ℕ) (p : ℕ) (arcs mid after : List ℕ) (starts : ℕ)
+    → Marked before base (RuleArc g p (functionsAt g p)) mid → Joined mid 0 base (SpreadArc g p arcs (lengthAt g p + 1)) after starts
+    → Grown before base (OpeningArc g p arcs) after
+opening-grown before base g p arcs mid after starts v u =
+    grown-then before base mid after (RuleArc g p (functionsAt g p)) (SpreadArc g p arcs (lengthAt g p + 1)) (OpeningArc g p arcs) (v .grown) (u .grown)
+    (opening-parts g p arcs) (λ c d s. ofRule s) (λ c d s. ofSymbol s)
+
+pub opening-inside : (g : List ℕ) (p among : ℕ) (arcs : List ℕ) → FunctionsFit g p among → ArcsFit g p among arcs → Inside among (OpeningArc g p arcs)
+opening-inside g p among arcs f a c d s =
+    ⊎-elim (λ y. functions-inside g p among f c d y) (λ y. spread-inside g p arcs among a c d y) (opening-parts g p arcs c d s)

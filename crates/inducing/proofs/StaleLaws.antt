@@ -14,20 +14,21 @@ use Rattle.bits.specs.Bit as sets
 use Rattle.bits.proofs.BitLaws.{bit-has, bit-below, bit-of-zero}
 use Rattle.bits.proofs.SetLaws.{bit-union}
 use Rattle.bits.proofs.CountLaws.{count-le, count-ext, count-remove}
-use Rattle.bits.proofs.MemberLaws.{none-left, some-member, has-other, hasb-below, union-cases, union-left, union-right, minus-both}
+use Rattle.bits.proofs.MemberLaws.{none-left, some-member, has-not, has-other, hasb-below, union-cases, union-left, union-right, minus-both}
 use Rattle.basics.specs.Tests.{count}
 use Rattle.basics.specs.Lists.{word}
-use Rattle.basics.proofs.TestLaws.{true-T, same-or-not, count-more}
+use Rattle.basics.proofs.TestLaws.{true-T, same-or-not, below-or-not, count-more}
 use Rattle.basics.proofs.TestLaws as tests
 use Rattle.grammar.specs.declared.Verdict.the-variants.{Good}
 use Rattle.grammar.specs.Table.{rules}
 use Rattle.grammar.specs.Reading.{readTable}
 use Rattle.grammar.proofs.AcceptedTable.{accepted}
+use Rattle.relations.specs.Paper.{DP, IDP⁺}
 use Rattle.access.specs.Offsets.{offsetsFor, RuleOf}
-use Rattle.inducing.specs.Rules.{Induced, Arcs}
+use Rattle.inducing.specs.Rules.{Arcs, Standing}
 use Rattle.inducing.specs.Stale.{NewArc, Fresh, Naming, Refreshed, Stale, Chosen, Upward, fromThere, fromBelow}
 use Rattle.inducing.proofs.ClearLaws.{zero-words}
-use Rattle.inducing.proofs.HoldsLaws.{frame-none, frame-then}
+use Rattle.inducing.proofs.HoldsLaws.{frame-none, frame-then, holds-none}
 use Rattle.inducing.proofs.ExactLaws.{arc-small, arc-symbol}
 
 -- a member of a part of a set is one of the set
@@ -52,62 +53,98 @@ still-stale stale r touched rest next e m = m ∙ ap (λ (s : ℕ). union s touc
 
 -- ---- the invariant
 
-pub stale-start : (g rows ids : List ℕ) (count stale : ℕ) → Induced g rows → ids ≡ replicate 32 0 → count ≡ rules g → stale ≡ below count
-    → Stale g rows stale rows ids
-stale-start g rows ids count stale w e h s =
+pub few-rules : (g : List ℕ) (n : ℕ) → readTable g ≡ Good → n ≡ rules g → n ≤ 64
+few-rules g n good e = omega (arith, accepted g good .rulesFit)
+
+pub rule-places : (g : List ℕ) (n r : ℕ) → readTable g ≡ Good → n ≡ rules g → r < n → r < 64
+rule-places g n r good e h = omega (arith, few-rules g n good e, h)
+
+-- at first nothing is there
+pub standing-start : (g rows ids : List ℕ) → 64 * rules g ≤ length rows → ((j : ℕ) → j < 64 * rules g → word rows j ≡ 0) → ids ≡ replicate 32 0
+    → Standing g 0 rows ids
+standing-start g rows ids room zeros e =
     record {
-      standing = record {
-        holds = w;
-        sized = ap length e ∙ length-replicate {A = ℕ} 32 0;
-        arcs = λ x k t. absurd (T-not (hasb k 0) (none-left k) (subst (λ (n : ℕ). T (hasb k n)) (ap (λ (s : List ℕ). word s x) e ∙ zero-words 32 x) t));
-      };
-      frame = frame-none g rows;
-      fresh = λ r l n. absurd (n (subst⁻¹ (λ (m : ℕ). T (hasb r m)) s (true-T _ (bit-has r (below count) (bit-below count r (omega arith))))));
-      below = λ r t. omega (arith, hasb-below count r (below count) (omega (arith, pow-pos count)) (subst (λ (m : ℕ). T (hasb r m)) s t));
+      holds = holds-none g (λ r a b. (r < 0) × DP g r a b) (λ r a b. IDP⁺ g r a b) rows room zeros (λ r a b d. let h = d .0 in omega (arith, h));
+      sized = ap length e ∙ length-replicate {A = ℕ} 32 0;
+      arcs = λ x k t. absurd (T-not (hasb k 0) (none-left k) (subst (λ (n : ℕ). T (hasb k n)) (ap (λ (s : List ℕ). word s x) e ∙ zero-words 32 x) t));
     }
 
-module _ (g entry naming rows ids after out : List ℕ) (stale r touched next : ℕ) (w : Stale g entry stale rows ids) (n : Naming g (rules g) naming)
-    (c : Chosen stale r) (u : Refreshed g naming r rows ids after out touched) (m : next ≡ union (remove r stale) touched) where
+pub opening-start : (g rows ids : List ℕ) → Standing g 0 rows ids → Stale g rows 0 0 rows ids
+opening-start g rows ids w =
+    record {
+      standing = w;
+      frame = frame-none g rows;
+      fresh = λ r h n. absurd (omega (arith, h));
+      below = λ r t. absurd (T-not (hasb r 0) (none-left r) t);
+    }
+
+-- Rule r is taken up, and DP of the first more rules is there then. Of these, every one but r was there before.
+module _ (g entry naming rows ids after out : List ℕ) (n more stale r touched next : ℕ) (w : Stale g entry n stale rows ids) (m : Naming g (rules g) naming)
+    (small : r < 64) (fits : more ≤ rules g) (new : (q : ℕ) → q < more → (q ≡ r → ⊥) → q < n) (u : Refreshed g naming more r rows ids after out touched)
+    (is : next ≡ union (remove r stale) touched) where
   -- what was stale stays so, but for the rule that was taken up
   left : (q : ℕ) → (q ≡ r → ⊥) → T (hasb q stale) → T (hasb q next)
   left q d t =
-      subst⁻¹ (λ (s : ℕ). T (hasb q s)) m
+      subst⁻¹ (λ (s : ℕ). T (hasb q s)) is
       (union-left q (remove r stale) touched (subst⁻¹ (λ (b : Bool). T b) (has-other r q stale d) t))
 
   again : (q : ℕ) → T (hasb q touched) → T (hasb q next)
-  again q t = subst⁻¹ (λ (s : ℕ). T (hasb q s)) m (union-right q (remove r stale) touched t)
+  again q t = subst⁻¹ (λ (s : ℕ). T (hasb q s)) is (union-right q (remove r stale) touched t)
 
   was : (q : ℕ) → T (hasb q (remove r stale)) → T (hasb q stale)
   was q t =
-      ⊎-elim (λ s. subst⁻¹ (λ (k : ℕ). T (hasb k stale)) s (true-T _ (bit-has r stale (c .member))))
+      ⊎-elim (λ s. absurd (T-not (hasb r (remove r stale)) (has-not r stale) (subst (λ (k : ℕ). T (hasb k (remove r stale))) s t)))
       (λ s. subst (λ (b : Bool). T b) (has-other r q stale s) t) (same-or-not q r)
 
-  pub stale-turn : Stale g entry next after out
-  stale-turn =
+  taken-up : Stale g entry more next after out
+  taken-up =
       record {
         standing = u .standing;
         frame = frame-then g entry rows after (w .frame) (u .frame);
         fresh = λ q l d.
             ⊎-elim
             (λ s. subst⁻¹ (λ (k : ℕ). Fresh g after out k) s (u .own (λ t. d (again q (subst⁻¹ (λ (k : ℕ). T (hasb k touched)) s t)))))
-            (λ s. u .others q l s (λ t. d (again q t)) (w .fresh q l (λ t. d (left q s t))))
+            (λ s. u .others q (omega (arith, l, fits)) s (λ t. d (again q t)) (w .fresh q (new q l s) (λ t. d (left q s t))))
             (same-or-not q r);
         below = λ q t.
-            ⊎-elim (λ s. w .below q (was q s)) (λ s. let y = u .reason q s in n .below (y .symbol) q (y .names))
-            (union-cases q (remove r stale) touched (subst (λ (s : ℕ). T (hasb q s)) m t));
+            ⊎-elim (λ s. w .below q (was q s)) (λ s. let y = u .reason q s in m .below (y .symbol) q (y .names))
+            (union-cases q (remove r stale) touched (subst (λ (s : ℕ). T (hasb q s)) is t));
       }
 
-pub stale-end : (g entry rows ids : List ℕ) (stale : ℕ) → Stale g entry stale rows ids → stale ≡ 0 → Stale g entry 0 rows ids
-stale-end g entry rows ids stale w e = subst (λ (s : ℕ). Stale g entry s rows ids) e w
+pub opening-turn : (g entry naming rows ids after out : List ℕ) (count stale r touched next : ℕ) → readTable g ≡ Good → Stale g entry r stale rows ids
+    → Naming g (rules g) naming → count ≡ rules g → r < count → Refreshed g naming (r + 1) r rows ids after out touched
+    → next ≡ union (remove r stale) touched → Stale g entry (r + 1) next after out
+opening-turn g entry naming rows ids after out count stale r touched next good w m e h u is =
+    taken-up g entry naming rows ids after out r (r + 1) stale r touched next w m (rule-places g count r good e h) (omega (arith, e, h))
+    (λ q l d. ⊎-elim (λ k. k) (λ k. absurd (d (omega (arith, k, l)))) (below-or-not q r)) u is
+
+pub opening-finish : (g entry rows ids : List ℕ) (count stale r : ℕ) → Stale g entry r stale rows ids → count ≡ rules g → r ≤ count → count ≤ r
+    → Stale g entry (rules g) stale rows ids
+opening-finish g entry rows ids count stale r w e h l = let q : r ≡ rules g = omega arith in subst (λ (n : ℕ). Stale g entry n stale rows ids) q w
+
+pub stale-turn : (g entry naming rows ids after out : List ℕ) (stale r touched next : ℕ) → Stale g entry (rules g) stale rows ids
+    → Naming g (rules g) naming → Chosen stale r → Refreshed g naming (rules g) r rows ids after out touched → next ≡ union (remove r stale) touched
+    → Stale g entry (rules g) next after out
+stale-turn g entry naming rows ids after out stale r touched next w m c u is =
+    taken-up g entry naming rows ids after out (rules g) (rules g) stale r touched next w m (c .small) (omega arith) (λ q l d. l) u is
+
+-- the first turns and the rest of the way
+pub stale-then : (g entry mid rows first ids : List ℕ) (n stale : ℕ) → Stale g entry n stale mid first → Stale g mid n 0 rows ids → Stale g entry n 0 rows ids
+stale-then g entry mid rows first ids n stale w u =
+    record { standing = u .standing; frame = frame-then g entry mid rows (w .frame) (u .frame); fresh = u .fresh; below = u .below }
+
+-- the rows as they are now are where the rest of the way starts
+pub stale-here : (g entry rows ids : List ℕ) (n stale : ℕ) → Stale g entry n stale rows ids → Stale g rows n stale rows ids
+stale-here g entry rows ids n stale w = record { standing = w .standing; frame = frame-none g rows; fresh = w .fresh; below = w .below }
+
+pub stale-end : (g entry rows ids : List ℕ) (n stale : ℕ) → Stale g entry n stale rows ids → stale ≡ 0 → Stale g entry n 0 rows ids
+stale-end g entry rows ids n stale w e = subst (λ (s : ℕ). Stale g entry n s rows ids) e w
 
 -- a stale rule is one of the table's
-pub chosen-rule : (g offsets entry rows ids : List ℕ) (stale r : ℕ) → readTable g ≡ Good → offsets ≡ offsetsFor g Good → Stale g entry stale rows ids
+pub chosen-rule : (g offsets entry rows ids : List ℕ) (n stale r : ℕ) → readTable g ≡ Good → offsets ≡ offsetsFor g Good → Stale g entry n stale rows ids
     → Chosen stale r → RuleOf g offsets r
-chosen-rule g offsets entry rows ids stale r good o w c =
+chosen-rule g offsets entry rows ids n stale r good o w c =
     record { good = good; offsetsAre = o; inside = w .below r (true-T _ (bit-has r stale (c .member))) }
-
-pub few-rules : (g : List ℕ) (n : ℕ) → readTable g ≡ Good → n ≡ rules g → n ≤ 64
-few-rules g n good e = omega (arith, accepted g good .rulesFit)
 
 -- ---- the measure
 
@@ -144,11 +181,11 @@ module _ (g : List ℕ) (good : readTable g ≡ Good) (rows ids after out : List
   arcs-most = tests.count-le 2048 (λ j. hasb (j % 64) (word out (j / 64)))
 
 -- each turn leaves less to do
-pub stale-less : (g : List ℕ) (good : readTable g ≡ Good) (naming rows ids after out : List ℕ) (stale r touched next : ℕ) → Chosen stale r
-    → Refreshed g naming r rows ids after out touched → touched < 2 ^ 64 → next ≡ union (remove r stale) touched
+pub stale-less : (g : List ℕ) (good : readTable g ≡ Good) (naming rows ids after out : List ℕ) (n stale r touched next : ℕ) → Chosen stale r
+    → Refreshed g naming n r rows ids after out touched → touched < 2 ^ 64 → next ≡ union (remove r stale) touched
     → left-to-do next out < left-to-do stale ids
 unfolding left-to-do arcCount
-stale-less g good naming rows ids after out stale r touched next c u fits m =
+stale-less g good naming rows ids after out n stale r touched next c u fits m =
     ⊎-elim
     (λ z.
     let same : sets.count 64 next ≡ sets.count 64 (remove r stale) =

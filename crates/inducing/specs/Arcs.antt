@@ -43,6 +43,11 @@ pub record SpreadArc (g : List ℕ) (p : ℕ) (arcs : List ℕ) (n c d : ℕ) : 
   pub placeFits : place < n
   pub arc : ArcAt place (word arcs (symbolFrom g p place)) c d
 
+-- both: what the rule at word p gets at first
+pub data OpeningArc (g : List ℕ) (p : ℕ) (arcs : List ℕ) (c d : ℕ) : Type 0 where
+  ofRule : RuleArc g p (functionsAt g p) c d → OpeningArc g p arcs c d
+  ofSymbol : SpreadArc g p arcs (lengthAt g p + 1) c d → OpeningArc g p arcs c d
+
 -- the function at word f speaks of occurrences
 pub record FunctionFits (g : List ℕ) (among f : ℕ) : Type 0 where
   pub targetFits : T (hasb (word g f) among)

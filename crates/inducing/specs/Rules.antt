@@ -34,20 +34,15 @@ pub record Cleared (n : ℕ) (before after : List ℕ) : Type 0 where
   pub zero : (j : ℕ) → j < n → word after j ≡ 0
   pub rest : (j : ℕ) → n ≤ j → word after j ≡ word before j
 
--- DP is there and every path is one of IDP; every arc is one of IDS
-abbrev pub Induced : List ℕ → List ℕ → Type 0
-Induced g rows = Holds g (λ r a b. DP g r a b) (λ r a b. IDP⁺ g r a b) rows
+-- DP of the first n rules is there and every path is one of IDP; every arc is one of IDS
+abbrev pub Induced : List ℕ → ℕ → List ℕ → Type 0
+Induced g n rows = Holds g (λ r a b. (r < n) × DP g r a b) (λ r a b. IDP⁺ g r a b) rows
 
 abbrev pub Arcs : List ℕ → List ℕ → Type 0
 Arcs g ids = (x k : ℕ) → T (hasb k (word ids x)) → IDS g x (k / 8) (k % 8)
 
 -- what holds of the rows and the state while arcs are induced
-pub record Standing (g rows ids : List ℕ) : Type 0 where
-  pub holds : Induced g rows
+pub record Standing (g : List ℕ) (n : ℕ) (rows ids : List ℕ) : Type 0 where
+  pub holds : Induced g n rows
   pub sized : length ids ≡ 32
   pub arcs : Arcs g ids
-
--- the rows with DP filled in
-pub record Filled (g before after : List ℕ) : Type 0 where
-  pub holds : Induced g after
-  pub frame : Frame g before after

@@ -1,4 +1,4 @@
--- Step 2 of 000, section 7, rule by rule. 000 marks an arc of a symbol once it is induced at every occurrence of the symbol; here a rule is
+-- Steps 1 and 2 of 000, section 7, rule by rule. 000 marks an arc of a symbol once it is induced at every occurrence of the symbol; here a rule is
 -- stale while one of its symbols may have an arc that it lacks. A rule that is not stale has them all, and hands on what its paths induce.
 -- For proofs of the code: no demand rests on it. Assumes nothing.
 use Prim.Native.Nat.{ℕ, _+_, _*_, _/_, _%_, _≤_, _<_}
@@ -68,20 +68,21 @@ pub record Fresh (g rows ids : List ℕ) (r : ℕ) : Type 0 where
   pub spreads : (i k : ℕ) → i ≤ rightLength g r → T (hasb k (word ids (symbolOf g r i))) → T (leads rows (64 * r) (8 * i + k / 8) (8 * i + k % 8))
   pub gathers : (i k : ℕ) → i ≤ rightLength g r → T (hasb k (arcsAt rows (64 * r) i (attributes g (symbolOf g r i)))) → T (hasb k (word ids (symbolOf g r i)))
 
--- after rule r took up the arcs of its symbols and handed on its own: whatever is not touched is fresh, or as it was
-pub record Refreshed (g naming : List ℕ) (r : ℕ) (rows ids after out : List ℕ) (touched : ℕ) : Type 0 where
-  pub standing : Standing g after out
+-- after rule r took up the arcs of its symbols and handed on its own, and DP of the first n rules is there: whatever is not touched is fresh, or as
+-- it was
+pub record Refreshed (g naming : List ℕ) (n r : ℕ) (rows ids after out : List ℕ) (touched : ℕ) : Type 0 where
+  pub standing : Standing g n after out
   pub frame : Frame g rows after
   pub own : (T (hasb r touched) → ⊥) → Fresh g after out r
   pub others : (q : ℕ) → q < rules g → (q ≡ r → ⊥) → (T (hasb q touched) → ⊥) → Fresh g rows ids q → Fresh g after out q
   pub grows : (x k : ℕ) → T (hasb k (word ids x)) → T (hasb k (word out x))
   pub reason : (q : ℕ) → T (hasb q touched) → Reason naming ids out q
 
--- while some rules are stale: every other is fresh
-pub record Stale (g entry : List ℕ) (stale : ℕ) (rows ids : List ℕ) : Type 0 where
-  pub standing : Standing g rows ids
+-- while some of the first n rules are stale: every other of them is fresh
+pub record Stale (g entry : List ℕ) (n stale : ℕ) (rows ids : List ℕ) : Type 0 where
+  pub standing : Standing g n rows ids
   pub frame : Frame g entry rows
-  pub fresh : (r : ℕ) → r < rules g → (T (hasb r stale) → ⊥) → Fresh g rows ids r
+  pub fresh : (r : ℕ) → r < n → (T (hasb r stale) → ⊥) → Fresh g rows ids r
   pub below : (r : ℕ) → T (hasb r stale) → r < rules g
 
 -- a member of a set, whichever

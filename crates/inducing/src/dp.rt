@@ -1,17 +1,9 @@
-// Step 1 of 000, section 7: DP of every rule in its rows, closed.
-use grammar::Offsets;
-use grammar::ROWS;
+// Step 1 of 000, section 7: DP of a rule, marked in its rows.
 ghost use mathlib.Core.Path.{_≡_};
-ghost use Prim.Native.Nat.{ℕ, _+_, _*_, _≤_, _<_};
+ghost use Prim.Native.Nat.{_+_, _≤_, _<_};
 ghost use lib.ListN.{length};
-ghost use Rattle.closing.specs.Rows.{Kept};
-ghost use Rattle.inducing.specs.Closes.{Closes, Marked, Only};
-ghost use Rattle.basics.specs.Lists.{word};
-ghost use Rattle.grammar.specs.declared.Verdict.the-variants as verdict;
-ghost use Rattle.grammar.specs.Reading.{readTable};
+ghost use Rattle.inducing.specs.Closes.{Marked, Only};
 ghost use Rattle.grammar.specs.Table as table;
-ghost use Rattle.access.specs.Offsets.{offsetsFor, RuleOf};
-ghost use Rattle.relations.specs.Paper.{DP};
 ghost use Rattle.inducing.specs.Rules as rules;
 ghost use Rattle.inducing.specs.Arcs as said;
 
@@ -61,7 +53,7 @@ fn mark_function(words: &[u16], f: usize, rows: &mut [u64], base: usize)
 }
 
 // Marks those of all functions of the rule at word p.
-fn mark_rule(words: &[u16], p: usize, rows: &mut [u64], base: usize)
+pub fn mark_rule(words: &[u16], p: usize, rows: &mut [u64], base: usize)
     requires { ⌜ (p < 65536) × (table.functionsAt (now words) p ≤ 64) × (base + 64 ≤ length (now rows)) ⌝ }
     requires { ⌜ said.FunctionsSmall (now words) p ⌝ }
     ensures { λ _. ⌜ Marked (now (rows .entry)) base (said.RuleArc (now (words .entry)) p (table.functionsAt (now (words .entry)) p)) (now (rows .exit)) ⌝ }
@@ -71,42 +63,5 @@ fn mark_rule(words: &[u16], p: usize, rows: &mut [u64], base: usize)
     for k in 0..count {
         mark_function(words, f, rows, base);
         f = access::next_function(words, f);
-    }
-}
-
-// The paths over them and over what the rows had: the rule is closed once, as a whole.
-fn fill_rule(words: &[u16], p: usize, rows: &mut [u64], base: usize, among: u64)
-    requires { ⌜ (p < 65536) × (table.functionsAt (now words) p ≤ 64) × (base + 64 ≤ length (now rows)) ⌝ }
-    requires { ⌜ said.FunctionsFit (now words) p among ⌝ }
-    requires { ⌜ Kept (now rows) base among ⌝ }
-    ensures { λ _. ⌜ Closes (now (rows .entry)) base among (said.RuleArc (now (words .entry)) p (table.functionsAt (now (words .entry)) p)) (now (rows .exit)) ⌝ }
-{
-    mark_rule(words, p, rows, base);
-    let middles = closing::inner(rows, base, among);
-    closing::close(rows, base, among, middles);
-}
-
-// DP of rule r, closed.
-fn fill_at(words: &[u16], offsets: &Offsets, r: usize, rows: &mut [u64])
-    requires { ⌜ RuleOf (now words) (now offsets) r ⌝ }
-    requires { ⌜ Kept (now rows) (64 * r) (rules.occurrencesOf (now words) r) ⌝ }
-    ensures { λ _. ⌜ Closes (now (rows .entry)) (64 * r) (rules.occurrencesOf (now (words .entry)) r) (DP (now (words .entry)) r) (now (rows .exit)) ⌝ }
-{
-    let p = access::rule_at(offsets, r);
-    let among = access::occurrence_set(words, p);
-    fill_rule(words, p, rows, ROWS * r, among);
-}
-
-// Step 1: DP of every rule.
-pub fn fill(words: &[u16], offsets: &Offsets, rows: &mut [u64])
-    requires { ⌜ readTable (now words) ≡ verdict.Good ⌝ }
-    requires { ⌜ now offsets ≡ offsetsFor (now words) verdict.Good ⌝ }
-    requires { ⌜ 64 * table.rules (now words) ≤ length (now rows) ⌝ }
-    requires { ⌜ ((j : ℕ) → j < 64 * table.rules (now words) → word (now rows) j ≡ 0) ⌝ }
-    ensures { λ _. ⌜ rules.Filled (now (words .entry)) (now (rows .entry)) (now (rows .exit)) ⌝ }
-{
-    let count = access::rules(words);
-    for r in 0..count {
-        fill_at(words, offsets, r, rows);
     }
 }

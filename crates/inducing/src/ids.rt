@@ -1,11 +1,13 @@
 // Step 2 of 000, section 7: the arcs that the paths of a rule induce between the attributes of a symbol are put to those of the symbol, and each rule
-// gets the arcs of its symbols. 000 marks an arc that every rule has; here a rule is stale while it may lack one.
+// gets the arcs of its symbols. 000 marks an arc that every rule has; here a rule is stale while it may lack one. A rule gets DP, step 1, when it is
+// taken up for the first time, so that it is closed once for both.
 use grammar::Offsets;
 use grammar::ROWS;
 ghost use mathlib.Core.Path.{_≡_};
-ghost use Prim.Native.Nat.{_+_, _*_, _≤_, _<_};
+ghost use Prim.Native.Nat.{ℕ, _+_, _*_, _≤_, _<_};
 ghost use lib.ListN.{length};
 ghost use Rattle.bits.specs.Bit as sets;
+ghost use Rattle.basics.specs.Lists.{word};
 ghost use Rattle.grammar.specs.declared.Verdict.the-variants as verdict;
 ghost use Rattle.grammar.specs.Reading.{readTable};
 ghost use Rattle.grammar.specs.Table as table;
@@ -97,7 +99,27 @@ fn gather(
     touched
 }
 
-// Rule r gets the arcs that its symbols have, and hands on those that its paths induce. The answer is the rules that are touched by it.
+// Rule r gets DP and the arcs that its symbols have so far, and hands on those that its paths induce. The answer is the rules that are touched by it.
+fn open(
+    words: &[u16],
+    offsets: &Offsets,
+    r: usize,
+    naming: &[u64; 32],
+    rows: &mut [u64],
+    ids: &mut [u64; 32],
+) -> u64
+    requires { ⌜ RuleOf (now words) (now offsets) r ⌝ }
+    requires { ⌜ state.Naming (now words) (table.rules (now words)) (now naming) ⌝ }
+    requires { ⌜ rules.Standing (now words) r (now rows) (now ids) ⌝ }
+    ensures { λ touched. ⌜ state.Refreshed (now (words .entry)) (now (naming .entry)) (r + 1) r (now (rows .entry)) (now (ids .entry)) (now (rows .exit)) (now (ids .exit)) touched ⌝ }
+{
+    let p = access::rule_at(offsets, r);
+    let among = access::occurrence_set(words, p);
+    super::open(words, p, rows, ROWS * r, among, ids);
+    gather(words, p, rows, ROWS * r, naming, ids)
+}
+
+// The same for a rule that has DP and is taken up again.
 fn refresh(
     words: &[u16],
     offsets: &Offsets,
@@ -108,8 +130,8 @@ fn refresh(
 ) -> u64
     requires { ⌜ RuleOf (now words) (now offsets) r ⌝ }
     requires { ⌜ state.Naming (now words) (table.rules (now words)) (now naming) ⌝ }
-    requires { ⌜ rules.Standing (now words) (now rows) (now ids) ⌝ }
-    ensures { λ touched. ⌜ state.Refreshed (now (words .entry)) (now (naming .entry)) r (now (rows .entry)) (now (ids .entry)) (now (rows .exit)) (now (ids .exit)) touched ⌝ }
+    requires { ⌜ rules.Standing (now words) (table.rules (now words)) (now rows) (now ids) ⌝ }
+    ensures { λ touched. ⌜ state.Refreshed (now (words .entry)) (now (naming .entry)) (table.rules (now (words .entry))) r (now (rows .entry)) (now (ids .entry)) (now (rows .exit)) (now (ids .exit)) touched ⌝ }
 {
     let p = access::rule_at(offsets, r);
     let among = access::occurrence_set(words, p);
@@ -139,22 +161,66 @@ fn still_stale(stale: u64, r: usize, touched: u64) -> u64
     bits::union(rest, touched)
 }
 
-// Step 2: as long as a rule is stale it is taken up, and the rules that it touches are stale from then on. No arc is taken back, so this ends.
-pub fn settle(words: &[u16], offsets: &Offsets, rows: &mut [u64]) -> [u64; 32]
+// Step 1, and the first turn of step 2 for each rule. The answer is the rules that are stale then.
+fn open_rules(
+    words: &[u16],
+    offsets: &Offsets,
+    naming: &[u64; 32],
+    rows: &mut [u64],
+    ids: &mut [u64; 32],
+) -> u64
     requires { ⌜ readTable (now words) ≡ verdict.Good ⌝ }
     requires { ⌜ now offsets ≡ offsetsFor (now words) verdict.Good ⌝ }
-    requires { ⌜ rules.Induced (now words) (now rows) ⌝ }
-    ensures { λ ids. ⌜ state.Stale (now (words .entry)) (now (rows .entry)) 0 (now (rows .exit)) ids ⌝ }
+    requires { ⌜ state.Naming (now words) (table.rules (now words)) (now naming) ⌝ }
+    requires { ⌜ rules.Standing (now words) 0 (now rows) (now ids) ⌝ }
+    ensures { λ stale. ⌜ state.Stale (now (words .entry)) (now (rows .entry)) (table.rules (now (words .entry))) stale (now (rows .exit)) (now (ids .exit)) ⌝ }
 {
-    let naming = name_rules(words, offsets);
-    let mut ids = [0u64; 32];
-    let mut stale = bits::below(access::rules(words));
+    let count = access::rules(words);
+    let mut stale = 0;
+    for r in 0..count {
+        let touched = open(words, offsets, r, naming, rows, ids);
+        stale = still_stale(stale, r, touched);
+    }
+    stale
+}
+
+// The rest of step 2: as long as a rule is stale it is taken up, and the rules that it touches are stale from then on. No arc is taken back, so this
+// ends.
+fn settle(
+    words: &[u16],
+    offsets: &Offsets,
+    naming: &[u64; 32],
+    rows: &mut [u64],
+    ids: &mut [u64; 32],
+    opened: u64,
+)
+    requires { ⌜ readTable (now words) ≡ verdict.Good ⌝ }
+    requires { ⌜ now offsets ≡ offsetsFor (now words) verdict.Good ⌝ }
+    requires { ⌜ state.Naming (now words) (table.rules (now words)) (now naming) ⌝ }
+    requires { ⌜ state.Stale (now words) (now rows) (table.rules (now words)) opened (now rows) (now ids) ⌝ }
+    ensures { λ _. ⌜ state.Stale (now (words .entry)) (now (rows .entry)) (table.rules (now (words .entry))) 0 (now (rows .exit)) (now (ids .exit)) ⌝ }
+{
+    let mut stale = opened;
     let mut from = 0;
     while stale != 0 {
         let r = choose(stale, from);
-        let touched = refresh(words, offsets, r, &naming, rows, &mut ids);
+        let touched = refresh(words, offsets, r, naming, rows, ids);
         stale = still_stale(stale, r, touched);
         from = r + 1;
     }
+}
+
+// Steps 1 and 2 for rows that are empty. The answer is the arcs of every symbol.
+pub fn induced(words: &[u16], offsets: &Offsets, rows: &mut [u64]) -> [u64; 32]
+    requires { ⌜ readTable (now words) ≡ verdict.Good ⌝ }
+    requires { ⌜ now offsets ≡ offsetsFor (now words) verdict.Good ⌝ }
+    requires { ⌜ 64 * table.rules (now words) ≤ length (now rows) ⌝ }
+    requires { ⌜ ((j : ℕ) → j < 64 * table.rules (now words) → word (now rows) j ≡ 0) ⌝ }
+    ensures { λ ids. ⌜ state.Stale (now (words .entry)) (now (rows .entry)) (table.rules (now (words .entry))) 0 (now (rows .exit)) ids ⌝ }
+{
+    let naming = name_rules(words, offsets);
+    let mut ids = [0u64; 32];
+    let stale = open_rules(words, offsets, &naming, rows, &mut ids);
+    settle(words, offsets, &naming, rows, &mut ids, stale);
     ids
 }

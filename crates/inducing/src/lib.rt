@@ -10,7 +10,7 @@ ghost use Prim.Native.Nat.{_+_, _*_, _≤_, _<_};
 ghost use lib.ListN.{length};
 ghost use Rattle.closing.specs.Rows.{Kept};
 ghost use Rattle.inducing.specs.Cycles.{cycleIn};
-ghost use Rattle.inducing.specs.Closes.{Closes, Joined, ArcAt, ArcOut};
+ghost use Rattle.inducing.specs.Closes.{Grown, Closes, Joined, ArcAt, ArcOut};
 ghost use Rattle.bits.specs.Bit as sets;
 ghost use Rattle.basics.specs.Lists.{word, padded};
 ghost use Rattle.grammar.specs.declared.Verdict.the-variants as verdict;
@@ -130,6 +130,31 @@ pub fn spread(words: &[u16], p: usize, rows: &mut [u64], base: usize, among: u64
     closing::close(rows, base, among, starts);
 }
 
+// What a rule gets at first: DP, and the arcs that its symbols have so far.
+fn add_first(words: &[u16], p: usize, rows: &mut [u64], base: usize, arcs: &[u64; 32])
+    requires { ⌜ base + 64 ≤ length (now rows) ⌝ }
+    requires { ⌜ said.Ruled (now words) p ⌝ }
+    requires { ⌜ said.FunctionsSmall (now words) p ⌝ }
+    ensures { λ _. ⌜ Grown (now (rows .entry)) base (said.OpeningArc (now (words .entry)) p (now (arcs .entry))) (now (rows .exit)) ⌝ }
+{
+    dp::mark_rule(words, p, rows, base);
+    join_symbols(words, p, rows, base, arcs);
+}
+
+// Adds them and closes the rule, once for both and as a whole.
+fn open(words: &[u16], p: usize, rows: &mut [u64], base: usize, among: u64, arcs: &[u64; 32])
+    requires { ⌜ base + 64 ≤ length (now rows) ⌝ }
+    requires { ⌜ said.Ruled (now words) p ⌝ }
+    requires { ⌜ said.FunctionsFit (now words) p among ⌝ }
+    requires { ⌜ said.ArcsFit (now words) p among (now arcs) ⌝ }
+    requires { ⌜ Kept (now rows) base among ⌝ }
+    ensures { λ _. ⌜ Closes (now (rows .entry)) base among (said.OpeningArc (now (words .entry)) p (now (arcs .entry))) (now (rows .exit)) ⌝ }
+{
+    add_first(words, p, rows, base, arcs);
+    let middles = closing::inner(rows, base, among);
+    closing::close(rows, base, among, middles);
+}
+
 // Steps 1 and 2: the rows get the paths of IDP, and the answer is IDS of every symbol.
 pub fn induce(words: &[u16], offsets: &Offsets, rows: &mut [u64]) -> [u64; 32]
     requires { ⌜ readTable (now words) ≡ verdict.Good ⌝ }
@@ -139,6 +164,5 @@ pub fn induce(words: &[u16], offsets: &Offsets, rows: &mut [u64]) -> [u64; 32]
     ensures { λ _. ⌜ now (rows .exit) ≡ over (rowsOf (now (words .entry)) (idpPaths (now (words .entry)) (idsOf (now (words .entry))))) (now (rows .entry)) ⌝ }
 {
     dp::clear(rows, ROWS * access::rules(words));
-    dp::fill(words, offsets, rows);
-    ids::settle(words, offsets, rows)
+    ids::induced(words, offsets, rows)
 }

@@ -1,7 +1,7 @@
 -- The arcs that lead down stand between occurrences of the rule, so they can be added at its positions.
 use borrow.Author.Needs.{needs}
 use Rattle.access.proofs.Accessors.{rule-small, rule-near, rule-shaped}
-use Rattle.inducing.proofs.FillingLaws.{kept-here}
+use Rattle.inducing.proofs.HoldsLaws.{kept-here}
 use Rattle.inducing.proofs.RuleRowLaws.{rule-ruled}
 use Rattle.extending.proofs.ExtendLaws.{down-fits, down-closes}
 use Rattle.extending.proofs.extend_rule.Statement.{statement}

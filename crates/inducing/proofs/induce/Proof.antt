@@ -1,5 +1,4 @@
--- The rows are cleared, DP is filled in, and arcs are induced until every rule is fresh. Then nothing is missing, and every path is one of IDP and
--- every arc one of IDS: so the state is IDS, and the rows hold the paths of IDP and no others.
+-- The rows are cleared, and gone through until no rule is stale. Then nothing is missing, and every path is one of IDP and every arc one of IDS: so the state is IDS, and the rows hold the paths of IDP and no others.
 use borrow.Author.Needs.{needs}
 use Rattle.inducing.proofs.ClearLaws.{cleared-room, cleared-zero}
 use Rattle.inducing.proofs.ExactLaws.{induced-state, induced-rows}
@@ -15,11 +14,8 @@ mul-clear c = search needs
 clear-requires : tie.Need-clear-requires
 clear-requires c κs = search needs
 
-fill-requires : tie.Need-fill-requires
-fill-requires c κs = (search needs, (search needs, (search cleared-room, search cleared-zero)))
-
-settle-requires : tie.Need-settle-requires
-settle-requires c κs = search needs
+induced-requires : tie.Need-induced-requires
+induced-requires c κs = (search needs, (search needs, (search cleared-room, search cleared-zero)))
 
 same-length : tie.Need-same-length
 same-length c = search needs
@@ -30,11 +26,4 @@ returns c = search (induced-state, induced-rows)
 pub induce-spec : {M : Type 1} → statement M
 induce-spec =
     tie.close
-    (tie.spec
-    rules-requires
-    mul-clear
-    clear-requires
-    fill-requires
-    settle-requires
-    same-length
-    returns)
+    (tie.spec rules-requires mul-clear clear-requires induced-requires same-length returns)

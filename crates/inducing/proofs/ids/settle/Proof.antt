@@ -1,29 +1,20 @@
--- The invariant: every rule that is not stale is fresh. Each turn finds a new arc or makes one stale rule fresh and none stale, so there is less
--- to do; and where no rule is stale, all are fresh.
-use Prim.Native.Nat.{_≤_}
+-- The invariant: every rule that is not stale is fresh. Each turn finds a new arc or makes one stale rule fresh and none stale, so there is less to do; and where no rule is stale, all are fresh.
 use borrow.Author.Needs.{needs}
+use Prim.Native.Nat.{_≤_}
+use Rattle.grammar.specs.Table.{rules}
 use Rattle.inducing.specs.Stale.{Stale}
-use Rattle.inducing.proofs.StaleLaws.{left-to-do, few-rules, stale-start, chosen-rule, stale-less, stale-turn, stale-end}
+use Rattle.inducing.proofs.StaleLaws.{left-to-do, chosen-rule, stale-less, stale-turn, stale-end}
 use Rattle.inducing.proofs.ids.settle.Statement.{statement}
 use Rattle.inducing.proofs.ids.settle.Tie as tie
 
 abbrev Inv-loop : tie.InvT-loop
-Inv-loop words offsets rows₀ naming ids₀ stale₀ from₀ rows ids stale from = (from ≤ 64) × Stale words rows₀ stale rows ids
+Inv-loop words offsets naming rows₀ ids₀ opened stale₀ from₀ rows ids stale from = (from ≤ 64) × Stale words rows₀ (rules words) stale rows ids
 
 abbrev μ-loop : tie.MeasureT-loop
-μ-loop words offsets rows₀ naming ids₀ stale₀ from₀ rows ids stale from = left-to-do stale ids
-
-name-rules-requires : tie.Need-name-rules-requires Inv-loop μ-loop
-name-rules-requires c κs = search needs
-
-rules-requires : tie.Need-rules-requires Inv-loop μ-loop
-rules-requires c κs = search needs
-
-below-requires : tie.Need-below-requires Inv-loop μ-loop
-below-requires c κs = search few-rules
+μ-loop words offsets naming rows₀ ids₀ opened stale₀ from₀ rows ids stale from = left-to-do stale ids
 
 loop-holds : tie.Need-loop-holds Inv-loop μ-loop
-loop-holds c = (search needs, search stale-start)
+loop-holds c = search needs
 
 choose-requires : tie.Need-choose-requires Inv-loop μ-loop
 choose-requires c κs = search needs
@@ -55,9 +46,6 @@ settle-spec =
     (tie.spec
     Inv-loop
     μ-loop
-    name-rules-requires
-    rules-requires
-    below-requires
     loop-holds
     choose-requires
     refresh-requires
