@@ -2,7 +2,7 @@ pub mod RowLaws
 pub mod CycleLaws
 pub mod GrownLaws
 pub mod MarkLaws
-pub mod FillLaws
+pub mod FunctionLaws
 pub mod JoinLaws
 pub mod SpreadLaws
 pub mod RuleRowLaws

@@ -1,6 +1,6 @@
 -- A rule of an accepted table, found by its offset: it starts where the table says, its symbols and functions fit, and the set of its
 -- occurrences has exactly them. Assumes nothing.
-use Prim.Native.Nat.{ℕ, _+_, _*_, _^_, _≤_, _<_}
+use Prim.Native.Nat.{ℕ, suc, _+_, _*_, _^_, _≤_, _<_}
 use mathlib.Core.Path.{_≡_, refl, sym, _∙_, ap, subst, subst⁻¹}
 use mathlib.Core.Bool.{Bool}
 use mathlib.Core.List.{List}
@@ -15,6 +15,7 @@ use Rattle.grammar.specs.Table.{
   rules,
   attributes,
   lengthAt,
+  functionAt,
   functionsAt,
   functions,
   ruleAt,
@@ -30,6 +31,7 @@ use Rattle.grammar.specs.Table.{
 use Rattle.grammar.specs.Reading.{readTable}
 use Rattle.grammar.specs.WellFormed.{WellFormed}
 use Rattle.grammar.proofs.AcceptedTable.{accepted, defining-occurs}
+use Rattle.grammar.proofs.RuleStarts.{functions-rise, rules-rise}
 use Rattle.relations.specs.Paper.{DP, Stands}
 use Rattle.relations.proofs.Occurrences.{occurs-below, dp-argument, stands-occurs}
 use Rattle.access.specs.Offsets.{RuleOf}
@@ -66,10 +68,12 @@ module _ (g : List ℕ) (good : readTable g ≡ Good) where
 
   -- its functions speak of its occurrences
   rule-functions : (r : ℕ) → r < rules g → FunctionsFit g (ruleAt g r) (occurrencesOf g r)
-  unfolding functions target argument arguments operation argumentsAt
+  unfolding functions target argument arguments operation argumentsAt ruleAt functionAt
   rule-functions r h k l =
       let w = formed .function r k h l in
       record {
+        there =
+            omega (arith, functions-rise g (ruleAt g r) (suc k) (functionsAt g (ruleAt g r)) l, rules-rise g (suc r) (rules g) h, formed .ends);
         targetFits = occurs-among r (target g r k) h (defining-occurs g r (target g r k) (w .targetDefining));
         argumentFits = λ j m. occurs-among r (argument g r k j) h (w .argumentOccurs j m);
       }

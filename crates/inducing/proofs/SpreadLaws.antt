@@ -20,7 +20,7 @@ use Rattle.closing.specs.Closure.{Meeting}
 use Rattle.inducing.specs.Closes.{Inside, Grown, Marked, Joined, ArcAt}
 use Rattle.inducing.specs.Arcs.{RuleArc, SpreadArc, OpeningArc, ofRule, ofSymbol, Ruled, FunctionsFit, ArcsFit}
 use Rattle.inducing.proofs.GrownLaws.{grown-then}
-use Rattle.inducing.proofs.FillLaws.{functions-inside}
+use Rattle.inducing.proofs.FunctionLaws.{functions-inside}
 use Rattle.inducing.proofs.JoinLaws.{joined-there, joined-then}
 
 -- an arc that is gathered at a position: it starts at an attribute there, and the rows lead along it

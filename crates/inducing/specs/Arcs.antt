@@ -26,8 +26,9 @@ pub record FunctionArc (g : List ℕ) (f n a b : ℕ) : Type 0 where
   pub argument : a ≡ word g (f + 2 + place)
   pub target : b ≡ word g f
 
--- its target and arguments have rows and places in a row
+-- its words are there, and its target and arguments have rows and places in a row
 pub record FunctionSmall (g : List ℕ) (f : ℕ) : Type 0 where
+  pub there : f + 2 + argumentWords (word g (f + 1)) ≤ length g
   pub targetSmall : word g f < 64
   pub argumentSmall : (j : ℕ) → j < argumentsAt g f → word g (f + 2 + j) < 64
 
@@ -48,8 +49,9 @@ pub data OpeningArc (g : List ℕ) (p : ℕ) (arcs : List ℕ) (c d : ℕ) : Typ
   ofRule : RuleArc g p (functionsAt g p) c d → OpeningArc g p arcs c d
   ofSymbol : SpreadArc g p arcs (lengthAt g p + 1) c d → OpeningArc g p arcs c d
 
--- the function at word f speaks of occurrences
+-- the function at word f is there and speaks of occurrences
 pub record FunctionFits (g : List ℕ) (among f : ℕ) : Type 0 where
+  pub there : f + 2 + argumentWords (word g (f + 1)) ≤ length g
   pub targetFits : T (hasb (word g f) among)
   pub argumentFits : (j : ℕ) → j < argumentsAt g f → T (hasb (word g (f + 2 + j)) among)
 

@@ -1,9 +1,11 @@
 // Step 1 of 000, section 7: DP of a rule, marked in its rows.
 ghost use mathlib.Core.Path.{_≡_};
+ghost use mathlib.Core.Bool.{cond};
 ghost use Prim.Native.Nat.{_+_, _≤_, _<_};
 ghost use lib.ListN.{length};
 ghost use Rattle.inducing.specs.Closes.{Marked, Only};
 ghost use Rattle.grammar.specs.Table as table;
+ghost use Rattle.access.specs.ByPlace as places;
 ghost use Rattle.inducing.specs.Rules as rules;
 ghost use Rattle.inducing.specs.Arcs as said;
 
@@ -17,17 +19,15 @@ pub fn clear(rows: &mut [u64], count: usize)
     }
 }
 
-// How many of the argument words of the function at word f are occurrences: a constant is none.
-fn argument_count(words: &[u16], f: usize) -> usize
-    requires { ⌜ f < 1000000 ⌝ }
-    ensures { λ r. ⌜ r ≡ said.argumentsAt (now (words .entry)) f ⌝ }
-    ensures { λ r. ⌜ r ≤ 4 ⌝ }
+// How many of the n argument words of an operation are occurrences: a constant is none.
+fn argument_count(op: usize, n: usize) -> usize
+    ensures { λ r. ⌜ r ≡ cond (table.isConstant op) 0 n ⌝ }
+    ensures { λ r. ⌜ r ≤ n ⌝ }
 {
-    let op = access::word(words, f + 1);
     if op == 0 {
         return 0;
     }
-    access::argument_words(op)
+    n
 }
 
 // Marks the arc from a to b.
@@ -38,18 +38,22 @@ fn mark(rows: &mut [u64], base: usize, a: usize, b: usize)
     rows[base + a] = bits::with(rows[base + a], b);
 }
 
-// Marks the arcs of the function at word f: from each of its arguments to its target.
-fn mark_function(words: &[u16], f: usize, rows: &mut [u64], base: usize)
+// Marks the arcs of the function at word f, from each of its arguments to its target, and answers where the next function starts.
+fn mark_function(words: &[u16], f: usize, rows: &mut [u64], base: usize) -> usize
     requires { ⌜ (f < 1000000) × (base + 64 ≤ length (now rows)) ⌝ }
     requires { ⌜ said.FunctionSmall (now words) f ⌝ }
+    ensures { λ next. ⌜ (next ≡ places.nextFunction (now (words .entry)) f) × (next ≤ f + 6) ⌝ }
     ensures { λ _. ⌜ Marked (now (rows .entry)) base (said.FunctionArc (now (words .entry)) f (said.argumentsAt (now (words .entry)) f)) (now (rows .exit)) ⌝ }
 {
-    let target = access::word(words, f);
-    let count = argument_count(words, f);
+    let target = access::known(words, f);
+    let op = access::known(words, f + 1);
+    let n = access::argument_words(op);
+    let count = argument_count(op, n);
     for j in 0..count {
-        let a = access::word(words, f + 2 + j);
+        let a = access::known(words, f + 2 + j);
         mark(rows, base, a, target);
     }
+    f + 2 + n
 }
 
 // Marks those of all functions of the rule at word p.
@@ -61,7 +65,6 @@ pub fn mark_rule(words: &[u16], p: usize, rows: &mut [u64], base: usize)
     let count = access::function_count(words, p);
     let mut f = access::first_function(words, p);
     for k in 0..count {
-        mark_function(words, f, rows, base);
-        f = access::next_function(words, f);
+        f = mark_function(words, f, rows, base);
     }
 }

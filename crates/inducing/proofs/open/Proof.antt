@@ -2,7 +2,7 @@
 use borrow.Author.Needs.{needs}
 use Rattle.closing.proofs.InnerLaws.{inner-meeting}
 use Rattle.inducing.proofs.GrownLaws.{grown-starts, grown-closes}
-use Rattle.inducing.proofs.FillLaws.{functions-small}
+use Rattle.inducing.proofs.FunctionLaws.{functions-small}
 use Rattle.inducing.proofs.SpreadLaws.{opening-inside}
 use Rattle.inducing.proofs.open.Statement.{statement}
 use Rattle.inducing.proofs.open.Tie as tie

@@ -1,7 +1,7 @@
 -- The invariant: f is the word at which function k starts, and the arcs of the functions before it are marked.
-use Prim.Native.Nat.{_≤_, _-_}
 use borrow.Author.Needs.{needs}
-use Rattle.inducing.proofs.FillLaws.{MarkingRule, rule-start, rule-turn, rule-finish, next-small}
+use Prim.Native.Nat.{_≤_, _-_}
+use Rattle.inducing.proofs.FunctionLaws.{MarkingRule, rule-start, rule-turn, rule-finish, next-small}
 use Rattle.inducing.proofs.dp.mark_rule.Statement.{statement}
 use Rattle.inducing.proofs.dp.mark_rule.Tie as tie
 
@@ -22,9 +22,6 @@ loop-holds c = (search needs, search rule-start)
 
 mark-function-requires : tie.Need-mark-function-requires Inv-loop μ-loop
 mark-function-requires c κs = search (next-small, needs)
-
-next-function-requires : tie.Need-next-function-requires Inv-loop μ-loop
-next-function-requires c κs = search needs
 
 add-k : tie.Need-add-k Inv-loop μ-loop
 add-k c = search needs
@@ -51,7 +48,6 @@ mark-rule-spec =
     first-function-requires
     loop-holds
     mark-function-requires
-    next-function-requires
     add-k
     loop-less
     loop-again

@@ -14,29 +14,24 @@ use Rattle.bits.specs.Bit.{hasb}
 use Rattle.bits.proofs.MemberLaws.{hasb-below}
 use Rattle.basics.specs.Lists.{word}
 use Rattle.basics.proofs.TestLaws.{below-suc}
-use Rattle.grammar.specs.Table.{argumentWords, functionAt, functionsAt}
+use Rattle.grammar.specs.Table.{argumentWords, isConstant, functionAt, functionsAt}
 use Rattle.inducing.specs.Closes.{Only, Inside, Marked}
 use Rattle.inducing.specs.Arcs.{argumentsAt, FunctionArc, FunctionSmall, RuleArc, FunctionFits, FunctionsFit, FunctionsSmall}
 use Rattle.inducing.proofs.MarkLaws.{marked-none, marked-then}
 
--- how many arguments a function has, for a constant and for any other operation
-pub no-arguments : (g : List ℕ) (f op : ℕ) → op ≡ getD g (f + 1) 0 → op ≡ 0 → 0 ≡ argumentsAt g f
-unfolding argumentsAt
-no-arguments g f op e z =
-    sym (ap (λ (b : Bool). cond b 0 (argumentWords (word g (f + 1)))) (eq-eqb (word g (f + 1)) 0 (sym e ∙ z)))
+-- how many arguments an operation has: a constant has none
+pub no-arguments : (op n : ℕ) → op ≡ 0 → 0 ≡ cond (isConstant op) 0 n
+no-arguments op n z = sym (ap (λ (b : Bool). cond b 0 n) (eq-eqb op 0 z))
 
-pub some-arguments : (g : List ℕ) (f op n : ℕ) → op ≡ getD g (f + 1) 0 → (op ≡ 0 → ⊥) → n ≡ argumentWords op → n ≡ argumentsAt g f
-unfolding argumentsAt
-some-arguments g f op n e z h =
-    h
-    ∙ (ap argumentWords e
-    ∙ sym (ap (λ (b : Bool). cond b 0 (argumentWords (word g (f + 1)))) (ne-eqb (word g (f + 1)) 0 (λ q. z (e ∙ q)))))
+pub some-arguments : (op n : ℕ) → (op ≡ 0 → ⊥) → n ≡ cond (isConstant op) 0 n
+some-arguments op n z = sym (ap (λ (b : Bool). cond b 0 n) (ne-eqb op 0 z))
 
 -- an occurrence is below 64
 module _ (g : List ℕ) (among : ℕ) (small : among < 2 ^ 64) where
   function-small : (f : ℕ) → FunctionFits g among f → FunctionSmall g f
   function-small f w =
       record {
+        there = w .there;
         targetSmall = hasb-below 64 (word g f) among small (w .targetFits);
         argumentSmall = λ j l. hasb-below 64 (word g (f + 2 + j)) among small (w .argumentFits j l);
       }
@@ -54,10 +49,28 @@ functions-inside g p among w a b s =
 
 -- ---- the arcs of one function, argument by argument
 
-module _ (g : List ℕ) (f : ℕ) where
-  pub argument-small : (n j a : ℕ) → FunctionSmall g f → n ≡ argumentsAt g f → j < n → a ≡ getD g (f + 2 + j) 0 → a < 64
-  argument-small n j a w e h q = omega (arith, w .argumentSmall j (omega arith))
+module _ (g : List ℕ) (f op n count : ℕ) (e : op ≡ getD g (f + 1) 0) (h : n ≡ argumentWords op) (m : count ≡ cond (isConstant op) 0 n) where
+  arguments-are : count ≡ argumentsAt g f
+  unfolding argumentsAt
+  arguments-are =
+      m
+      ∙ (ap (λ (k : ℕ). cond (isConstant op) 0 k) h ∙ ap (λ (o : ℕ). cond (isConstant o) 0 (argumentWords o)) e)
 
+  pub argument-small : (j a : ℕ) → FunctionSmall g f → j < count → a ≡ getD g (f + 2 + j) 0 → a < 64
+  argument-small j a w l q = omega (arith, w .argumentSmall j (omega (arith, arguments-are, l)), q)
+
+  pub argument-there : (j : ℕ) → FunctionSmall g f → j < count → count ≤ n → f + 2 + j < length g
+  argument-there j w l k = omega (arith, w .there, ap argumentWords e, h, l, k)
+
+  pub next-is : (next : ℕ) → next ≡ f + 2 + n → next ≡ f + 2 + argumentWords (getD g (f + 1) 0)
+  next-is next q = omega (arith, q, h, ap argumentWords e)
+
+  pub arguments-finish : (entry : List ℕ) (base : ℕ) (rows : List ℕ) (j : ℕ) → Marked entry base (FunctionArc g f j) rows → j ≤ count → count ≤ j
+      → Marked entry base (FunctionArc g f (argumentsAt g f)) rows
+  arguments-finish entry base rows j w a b =
+      let q : j ≡ argumentsAt g f = omega (arith, arguments-are) in subst (λ (i : ℕ). Marked entry base (FunctionArc g f i) rows) q w
+
+module _ (g : List ℕ) (f : ℕ) where
   pub target-small : (b : ℕ) → FunctionSmall g f → b ≡ getD g f 0 → b < 64
   target-small b w e = omega (arith, w .targetSmall)
 
@@ -75,11 +88,6 @@ module _ (g : List ℕ) (f : ℕ) where
         (below-suc (s .place) j (omega (arith, s .placeFits))))
         (λ c d s. record { place = s .place; placeFits = omega (arith, s .placeFits); argument = s .argument; target = s .target })
         (λ c d s. record { place = j; placeFits = omega arith; argument = s .start ∙ q; target = s .end ∙ t })
-
-    pub arguments-finish : (rows : List ℕ) (n j : ℕ) → Marked entry base (FunctionArc g f j) rows → n ≡ argumentsAt g f → j ≤ n → n ≤ j
-        → Marked entry base (FunctionArc g f (argumentsAt g f)) rows
-    arguments-finish rows n j w e h l =
-        let q : j ≡ argumentsAt g f = omega arith in subst (λ (i : ℕ). Marked entry base (FunctionArc g f i) rows) q w
 
 -- ---- the arcs of a rule, function by function
 
