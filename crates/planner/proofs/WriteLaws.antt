@@ -1,7 +1,7 @@
 -- The words of a plan, block after block: the set words, then the sequence of each rule.
 -- Assumes nothing.
 use Prim.Native.Nat.{ℕ, _+_, _*_, _-_, _≤_, _<_}
-use mathlib.Core.Path.{_≡_, sym, _∙_, ap, ap₂, subst⁻¹}
+use mathlib.Core.Path.{_≡_, refl, sym, _∙_, ap, ap₂, subst, subst⁻¹}
 use mathlib.Core.List.{List, _++_, append-assoc}
 use native.Mathlib.Omega.{arith}
 use native.Mathlib.Numerals.{add-one}
@@ -10,12 +10,14 @@ use lib.ListN.{length, getD, drop, length-append}
 use lib.Seq.{take-append-seam, drop-append-add, drop-drop}
 use Rattle.basics.specs.Lists.{word, blocks}
 use Rattle.basics.proofs.ListLaws.{length-blocks, length-padded}
-use Rattle.grammar.specs.Limits.{mostRules, mostOccurrences, ruleWords, planWords}
-use Rattle.grammar.specs.Table.{rules}
+use Rattle.grammar.specs.Limits.{mostSymbols, mostRules, mostOccurrences, ruleWords, planWords}
+use Rattle.grammar.specs.Table.{symbols, rules}
 use Rattle.grammar.proofs.AcceptedTable.{accepted}
 use Rattle.relations.specs.Computed.{idsOf}
 use Rattle.sets.specs.Computed.{setsOf}
+use Rattle.sets.specs.Visits.{visits}
 use Rattle.sets.proofs.SetWords.{length-sets}
+use Rattle.sets.proofs.Visits.{visits-five}
 use Rattle.sequences.specs.Order.{sequenceOf}
 use Rattle.sequences.proofs.PlannedSequences.{planned-short}
 use Rattle.plans.specs.Buffers.{over, sequenceWords, planOf}
@@ -23,7 +25,8 @@ use Rattle.plans.specs.Answer.{edpPaths, sequencesOf, acceptedPlan}
 use Rattle.plans.proofs.Answers.{no-idp-cycle, no-edp-cycle}
 use Rattle.access.proofs.Accessors.{offset-is}
 use Rattle.plans.proofs.RowWords.{over-size, over-row}
-use Rattle.sequencing.specs.Given.{RuleGiven as Given, withBlock as written}
+use Rattle.remaining.specs.RuleSets.{FewVisits, ByVisit}
+use Rattle.sequencing.specs.Given.{RuleGiven as Given, setWords, withBlock as written}
 use Rattle.planner.specs.Stages.{OrderedStage, sets}
 
 -- a block written after what is already written
@@ -107,21 +110,29 @@ plan-kept g offsets s rows lent entry plan r d e w =
     ∙ (ap length (e ∙ first-written s lent)
     ∙ over-size s lent (omega (arith, ap length (d .setsAre), length-sets g (idsOf g), d .planRoom)))
 
+-- the table by visit: the symbols and their visits are few
+pub by-symbols : (g offsets s rows : List ℕ) (n : ℕ) → OrderedStage g offsets s rows n → symbols g ≤ mostSymbols
+by-symbols g offsets s rows n w = accepted g (w .good) .symbolsFit
+
+pub by-few : (g offsets s rows : List ℕ) (n : ℕ) → OrderedStage g offsets s rows n → FewVisits s
+by-few g offsets s rows n w x = subst⁻¹ (λ (y : List ℕ). visits y x ≤ 5) (w .setsAre) (visits-five g (idsOf g) x)
+
 -- what the sequence of rule r asks for
-pub plan-given : (g offsets s rows entry plan : List ℕ) (r p n : ℕ) → PlanTo g offsets s rows entry plan r → n ≡ rules g → r < n → p ≡ getD offsets r 0
-    → Given g s rows p r
-plan-given g offsets s rows entry plan r p n w m h e =
+pub plan-given : (g offsets s by rows entry plan : List ℕ) (r p n : ℕ) → PlanTo g offsets s rows entry plan r → ByVisit g s by → n ≡ rules g → r < n
+    → p ≡ getD offsets r 0 → Given g (setWords g) by rows p r
+plan-given g offsets s by rows entry plan r p n w seen m h e =
     let d = w .ready in
     let l : r < rules g = omega arith in
     record {
       good = d .good;
       counts = l;
       starts = offset-is g offsets r p (d .starts) l e;
-      sets = d .setsAre;
+      sets = refl;
+      byVisit = subst (λ (x : List ℕ). ByVisit g x by) (d .setsAre) seen;
       noncircular = no-idp-cycle g (d .good) (d .noIdpCycle);
       ordered = no-edp-cycle g (d .good) (d .noEdpCycle);
       room = d .size;
-      paths = λ o b. ap (λ (x : List ℕ). word x (mostOccurrences * r + o)) (d .paths) ∙ over-row g (edpPaths g (idsOf g) (setsOf g (idsOf g))) rows r o l b;
+      paths = λ o b. ap (λ (x : List ℕ). word x (mostOccurrences * r + o)) (d .paths) ∙ over-row g (edpPaths g (idsOf g) (setWords g)) rows r o l b;
     }
 
 pub plan-fits : (g offsets s rows entry plan : List ℕ) (r : ℕ) → PlanTo g offsets s rows entry plan r → planWords (rules g) ≤ length plan

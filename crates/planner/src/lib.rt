@@ -40,9 +40,10 @@ fn write_plan(
     ensures { λ _. ⌜ now (plan .exit) ≡ over (answer.acceptedPlan (now (words .entry))) (now (plan .entry)) ⌝ }
 {
     sequencing::write(plan, 0, sets);
+    let by = remaining::by_visit(words, sets);
     let count = access::rules(words);
     for r in 0..count {
-        sequencing::sequence(words, access::rule_at(offsets, r), r, sets, rows, plan);
+        sequencing::sequence(words, access::rule_at(offsets, r), r, &by, rows, plan);
     }
 }
 

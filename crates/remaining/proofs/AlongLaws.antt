@@ -1,6 +1,6 @@
 -- What each visit takes along, as the code finds it: the visits that are no longer left have their words, and in the end none is left.
 -- Assumes nothing.
-use Prim.Native.Nat.{ℕ, _+_, _*_, _-_, _/_, _%_, _≤_, _<_}
+use Prim.Native.Nat.{ℕ, _*_, _/_, _%_, _<_}
 use mathlib.Core.Path.{_≡_, _∙_, ap, subst⁻¹}
 use mathlib.Core.Logic.{⊎-elim}
 use mathlib.Core.Bool.{not}
@@ -14,31 +14,30 @@ use Rattle.basics.proofs.TestLaws.{same-or-not}
 use Rattle.bits.specs.Bit.{hasb, remove, lowest, raised, First}
 use Rattle.bits.proofs.MemberLaws.{none-left}
 use Rattle.bits.proofs.RestLaws.{rest-of}
-use Rattle.sets.specs.Visits.{visits}
+use Rattle.grammar.specs.Limits.{mostSymbols}
 use Rattle.access.specs.ByPlace.{symbolFrom}
 use Rattle.remaining.specs.RuleSets.{inheritedMask, Children, takenAlong, Along}
-use Rattle.remaining.proofs.MaskLaws.{mask-small}
 use Rattle.remaining.proofs.MemberWalks.{first-member, was-left, gone}
 
-module _ (g s : List ℕ) (p visits₀ : ℕ) where
+module _ (g by : List ℕ) (p visits₀ : ℕ) where
   -- the visits that are no longer left have their words
   pub record TakingAlong (left : ℕ) (down : List ℕ) : Type 0 where
-    pub children : Children g s p visits₀
+    pub children : Children g p visits₀
     pub size : length down ≡ 64
     pub within : (b : ℕ) → T (hasb b left) → T (hasb b visits₀)
-    pub filled : (b : ℕ) → b < 64 → T (hasb b visits₀) → T (not (hasb b left)) → word down b ≡ takenAlong g s p b
+    pub filled : (b : ℕ) → b < 64 → T (hasb b visits₀) → T (not (hasb b left)) → word down b ≡ takenAlong g by p b
 
-  pub filling-start : (down : List ℕ) → Children g s p visits₀ → length down ≡ 64 → TakingAlong visits₀ down
+  pub filling-start : (down : List ℕ) → Children g p visits₀ → length down ≡ 64 → TakingAlong visits₀ down
   filling-start down h e =
       record { children = h; size = e; within = λ b t. t; filled = λ b l t n. absurd (T-not (hasb b visits₀) n t) }
 
   pub filling-child : (left : ℕ) (down : List ℕ) (b x : ℕ) → TakingAlong left down → First left b → x ≡ symbolFrom g p (b / 8)
-      → b % 8 + 1 ≤ visits s x + 1
+      → x < mostSymbols
   filling-child left down b x w f e =
-      omega (arith, w .children b (f .small) (w .within b (first-member left b f)), ap (λ (y : ℕ). visits s y) e)
+      omega (arith, e, w .children b (f .small) (w .within b (first-member left b f)))
 
   pub filling-turn : (left : ℕ) (down : List ℕ) (b x mask part next : ℕ) → TakingAlong left down → First left b → x ≡ symbolFrom g p (b / 8)
-      → mask ≡ inheritedMask s x (b % 8 + 1) → part ≡ raised (8 * (b / 8)) mask → next ≡ remove (lowest 64 left) left
+      → mask ≡ inheritedMask by x (b % 8) → part ≡ raised (8 * (b / 8)) mask → next ≡ remove (lowest 64 left) left
       → TakingAlong next (set down b part)
   unfolding takenAlong
   filling-turn left down b x mask part next w f e m q n =
@@ -50,18 +49,14 @@ module _ (g s : List ℕ) (p visits₀ : ℕ) where
         filled = λ k l t i.
             ⊎-elim
             (λ z.
-            subst⁻¹ (λ (y : ℕ). word (set down b part) y ≡ takenAlong g s p y) z
+            subst⁻¹ (λ (y : ℕ). word (set down b part) y ≡ takenAlong g by p y) z
             (getD-set-same down b part 0 (omega (arith, w .size, f .small))
-            ∙ (q ∙ ap (raised (8 * (b / 8))) (m ∙ ap (λ (y : ℕ). inheritedMask s y (b % 8 + 1)) e))))
+            ∙ (q ∙ ap (raised (8 * (b / 8))) (m ∙ ap (λ (y : ℕ). inheritedMask by y (b % 8)) e))))
             (λ z.
             ⊎-elim (λ y. absurd (z y)) (λ y. getD-set-other down b k part 0 z ∙ w .filled k l t y) (gone left b k i))
             (same-or-not k b);
       })
 
-  pub filling-finish : (left : ℕ) (down : List ℕ) → TakingAlong left down → left ≡ 0 → Along g s p visits₀ down
+  pub filling-finish : (left : ℕ) (down : List ℕ) → TakingAlong left down → left ≡ 0 → Along g by p visits₀ down
   filling-finish left down w e =
       record { is = λ b h t. w .filled b h t (subst⁻¹ (λ (x : ℕ). T (not (hasb b x))) e (none-left b)) }
-
-pub along-small : (s : List ℕ) (x n mask : ℕ) → mask ≡ inheritedMask s x n → mask < 256
-unfolding inheritedMask
-along-small s x n mask e = subst⁻¹ (λ (y : ℕ). y < 256) e (mask-small s x (2 * (visits s x + 1 - n)))

@@ -6,20 +6,20 @@ use mathlib.Core.Logic.{⊎-elim}
 use mathlib.Core.Bool.{Bool, true, false, cond}
 use mathlib.Core.List.{List}
 use native.Mathlib.Omega.{arith}
-use lib.Dec.{T, ltb, leb}
+use lib.Dec.{T, ltb, leb, T-not}
 use lib.Pow.{ones-lt}
 use borrow.Author.Tests.{lt-ltb, le-ltb, le-leb, lt-leb}
 use Rattle.basics.specs.Tests.{_and_}
-use Rattle.basics.proofs.TestLaws.{below-or-not}
-use Rattle.bits.specs.Bit.{bit, number, collect, below, union, raised}
-use Rattle.bits.proofs.BitLaws.{bit-above, bit-below, bit-of-zero}
+use Rattle.basics.proofs.TestLaws.{below-or-not, chosen, true-T}
+use Rattle.bits.specs.Bit.{bit, number, hasb, collect, below, union, raised}
+use Rattle.bits.proofs.BitLaws.{bit-above, bit-below, bit-of-zero, bit-has, number-hasb}
 use Rattle.bits.proofs.CollectLaws.{collect-lt}
-use Rattle.bits.proofs.MemberLaws.{hasb-collect, hasb-below, no-member}
+use Rattle.bits.proofs.MemberLaws.{hasb-collect, hasb-below, none-left, no-member}
+use Rattle.grammar.specs.Limits.{mostSymbols}
 use Rattle.grammar.specs.Table.{attributes, nonterminal, lengthAt}
-use Rattle.sets.specs.Visits.{visits}
 use Rattle.access.specs.ByPlace.{symbolFrom, Shaped}
 use Rattle.access.proofs.Blocks.{block-more, collect-rest, below-small}
-use Rattle.remaining.specs.RuleSets.{childVisits, madeAttributes, visitFrom, visitsFrom, occurrencesFrom, madeFrom, Few}
+use Rattle.remaining.specs.RuleSets.{symbolVisits, madeAttributes, visitsIn, visitFrom, visitsFrom, occurrencesFrom, madeFrom, Tabled}
 
 bit-of-block : (t : Bool) (n a : ℕ) → bit a (cond t (below n) 0) ≡ number (t and ltb a n)
 unfolding _and_
@@ -38,18 +38,31 @@ block-yes t u n k r e f h q = q ∙ (ap below h ∙ sym (ap (λ (b : Bool). cond
 pub block-no : (t u : Bool) (n : ℕ) → t ≡ u → t ≡ false → 0 ≡ cond u (below n) 0
 block-no t u n e f = sym (ap (λ (b : Bool). cond b (below n) 0) (sym e ∙ f))
 
-module _ (g s : List ℕ) (x : ℕ) where
-  pub child-yes : (t : Bool) (k r : ℕ) → t ≡ nonterminal g x → t ≡ true → k ≡ visits s x → r ≡ below k → r ≡ childVisits g s x
-  unfolding childVisits
-  child-yes t k r e f h q = block-yes t (nonterminal g x) (visits s x) k r e f h q
+module _ (g : List ℕ) (x v : ℕ) where
+  pub visits-yes : (t : Bool) (r : ℕ) → t ≡ nonterminal g x → t ≡ true → r ≡ below v → r ≡ symbolVisits g x v
+  unfolding symbolVisits
+  visits-yes t r e f q = block-yes t (nonterminal g x) v v r e f refl q
 
-  pub child-no : (t : Bool) → t ≡ nonterminal g x → t ≡ false → 0 ≡ childVisits g s x
-  unfolding childVisits
-  child-no t e f = block-no t (nonterminal g x) (visits s x) e f
+  pub visits-no : (t : Bool) → t ≡ nonterminal g x → t ≡ false → 0 ≡ symbolVisits g x v
+  unfolding symbolVisits
+  visits-no t e f = block-no t (nonterminal g x) v e f
 
-  pub child-small : (r : ℕ) → visits s x ≤ 5 → r ≡ childVisits g s x → r < 256
-  unfolding childVisits
-  child-small r few e = subst⁻¹ (λ (y : ℕ). y < 256) e (block-small (nonterminal g x) (visits s x) (omega arith))
+  -- a visit of a nonterminal
+  pub in-visits : (n : ℕ) → T (hasb n (symbolVisits g x v)) → T (nonterminal g x) × (n < v)
+  unfolding symbolVisits
+  in-visits n t = go (nonterminal g x) t
+    where
+      go : (u : Bool) → T (hasb n (cond u (below v) 0)) → T u × (n < v)
+      go true t = (tt, hasb-below v n (below v) (ones-lt v) t)
+      go false t = absurd (T-not (hasb n 0) (none-left n) t)
+
+  pub visits-has : (n : ℕ) → T (nonterminal g x) → n < v → T (hasb n (symbolVisits g x v))
+  unfolding symbolVisits
+  visits-has n t h = subst⁻¹ (λ (y : ℕ). T (hasb n y)) (chosen (nonterminal g x) (below v) 0 t) (true-T _ (bit-has n (below v) (bit-below v n h)))
+
+  pub visits-small : v ≤ 5 → symbolVisits g x v < 256
+  unfolding symbolVisits
+  visits-small few = block-small (nonterminal g x) v (omega arith)
 
 module _ (g : List ℕ) (x : ℕ) where
   pub made-yes : (t : Bool) (k r : ℕ) → t ≡ nonterminal g x → t ≡ true → k ≡ attributes g x → r ≡ below k → r ≡ madeAttributes g x
@@ -130,83 +143,83 @@ module _ (g : List ℕ) (p : ℕ) where
       ∙ (ap (λ (k : ℕ). collect (8 * k) (λ o. madeFrom g p o)) e
       ∙ sym (collect-rest (8 * (lengthAt g p + 1)) 64 (λ o. madeFrom g p o) (omega (arith, w .shaped .short)) made-past))
 
-module _ (g s : List ℕ) (p : ℕ) where
-  visit-bit : (i a : ℕ) → i < lengthAt g p → a < 8 → bit a (childVisits g s (symbolFrom g p (i + 1))) ≡ number (visitFrom g s p (8 * (i + 1) + a))
-  unfolding childVisits visitFrom _and_
+module _ (g by : List ℕ) (p : ℕ) where
+  visit-bit : (i a : ℕ) → i < lengthAt g p → a < 8 → bit a (visitsIn by (symbolFrom g p (i + 1))) ≡ number (visitFrom g by p (8 * (i + 1) + a))
+  unfolding visitFrom _and_
   visit-bit i a h l =
       let place : (8 * (i + 1) + a) / 8 ≡ i + 1 = omega arith in
       let own : (8 * (i + 1) + a) % 8 ≡ a = omega arith in
-      bit-of-block (nonterminal g (symbolFrom g p (i + 1))) (visits s (symbolFrom g p (i + 1))) a
+      sym (number-hasb a (visitsIn by (symbolFrom g p (i + 1))))
       ∙ sym (ap number
-      (ap₂ (λ (j b : ℕ). (leb 1 j and leb j (lengthAt g p)) and (nonterminal g (symbolFrom g p j) and ltb b (visits s (symbolFrom g p j)))) place own
-      ∙ ap₂ (λ (t u : Bool). (t and u) and (nonterminal g (symbolFrom g p (i + 1)) and ltb a (visits s (symbolFrom g p (i + 1)))))
+      (ap₂ (λ (j b : ℕ). (leb 1 j and leb j (lengthAt g p)) and hasb b (visitsIn by (symbolFrom g p j))) place own
+      ∙ ap₂ (λ (t u : Bool). (t and u) and hasb a (visitsIn by (symbolFrom g p (i + 1))))
       (le-leb 1 (i + 1) (omega arith)) (le-leb (i + 1) (lengthAt g p) (omega arith))))
 
-  visit-past : (b : ℕ) → 8 * (lengthAt g p + 1) ≤ b → visitFrom g s p b ≡ false
+  visit-past : (b : ℕ) → 8 * (lengthAt g p + 1) ≤ b → visitFrom g by p b ≡ false
   unfolding visitFrom _and_
   visit-past b h =
-      ap₂ (λ (t u : Bool). (t and u) and (nonterminal g (symbolFrom g p (b / 8)) and ltb (b % 8) (visits s (symbolFrom g p (b / 8)))))
+      ap₂ (λ (t u : Bool). (t and u) and hasb (b % 8) (visitsIn by (symbolFrom g p (b / 8))))
       (le-leb 1 (b / 8) (omega arith)) (lt-leb (b / 8) (lengthAt g p) (omega arith))
 
   -- the left side is no child
-  visit-none : (b : ℕ) → b < 8 → visitFrom g s p b ≡ false
+  visit-none : (b : ℕ) → b < 8 → visitFrom g by p b ≡ false
   unfolding visitFrom _and_
   visit-none b h =
-      ap (λ (t : Bool). (t and leb (b / 8) (lengthAt g p)) and (nonterminal g (symbolFrom g p (b / 8)) and ltb (b % 8) (visits s (symbolFrom g p (b / 8)))))
+      ap (λ (t : Bool). (t and leb (b / 8) (lengthAt g p)) and hasb (b % 8) (visitsIn by (symbolFrom g p (b / 8))))
       (lt-leb 1 (b / 8) (omega arith))
 
   pub record Calling (end found i : ℕ) : Type 0 where
     pub endIs : end ≡ lengthAt g p
     pub inside : i ≤ end
     pub shaped : Shaped g p
-    pub few : Few g p s
-    pub foundIs : found ≡ collect (8 * (i + 1)) (λ b. visitFrom g s p b)
+    pub tabled : Tabled g by p
+    pub foundIs : found ≡ collect (8 * (i + 1)) (λ b. visitFrom g by p b)
 
-  pub calling-start : (end : ℕ) → Shaped g p → Few g p s → end ≡ lengthAt g p → Calling end 0 0
-  calling-start end w few e =
+  pub calling-start : (end : ℕ) → Shaped g p → Tabled g by p → end ≡ lengthAt g p → Calling end 0 0
+  calling-start end w tabled e =
       record {
         endIs = e;
         inside = omega arith;
         shaped = w;
-        few = few;
+        tabled = tabled;
         foundIs =
-            sym (no-member (collect 8 (λ b. visitFrom g s p b))
+            sym (no-member (collect 8 (λ b. visitFrom g by p b))
             (λ b t.
-            let h : b < 8 = hasb-below 8 b (collect 8 (λ b. visitFrom g s p b)) (collect-lt 8 _) t in
+            let h : b < 8 = hasb-below 8 b (collect 8 (λ b. visitFrom g by p b)) (collect-lt 8 _) t in
             subst (λ (x : Bool). T x) (hasb-collect 8 b _ h ∙ visit-none b h) t));
       }
 
-  pub calling-few : (end found i x : ℕ) → Calling end found i → i < end → x ≡ symbolFrom g p (i + 1) → visits s x ≤ 5
-  calling-few end found i x w h e =
-      subst⁻¹ (λ (y : ℕ). visits s y ≤ 5) e (w .few (i + 1) (omega (arith, w .endIs)))
+  pub calling-low : (end found i x : ℕ) → Calling end found i → i < end → x ≡ symbolFrom g p (i + 1) → x < mostSymbols
+  calling-low end found i x w h e = omega (arith, e, w .tabled .low (i + 1) (omega (arith, w .endIs)))
 
-  pub calling-block : (end found i x there : ℕ) → Calling end found i → i < end → x ≡ symbolFrom g p (i + 1) → there ≡ childVisits g s x → there < 256
-  calling-block end found i x there w h e f = child-small g s x there (calling-few end found i x w h e) f
+  pub calling-block : (end found i x there : ℕ) → Calling end found i → i < end → x ≡ symbolFrom g p (i + 1) → there ≡ visitsIn by x → there < 256
+  calling-block end found i x there w h e f =
+      subst⁻¹ (λ (y : ℕ). y < 256) (f ∙ ap (visitsIn by) e) (w .tabled .small (i + 1) (omega (arith, w .endIs)))
 
   pub calling-place : (end found i : ℕ) → Calling end found i → i < end → 8 * (i + 1) ≤ 56
   calling-place end found i w h = omega (arith, w .endIs, w .shaped .short)
 
-  pub calling-turn : (end found i x there part next : ℕ) → Calling end found i → i < end → x ≡ symbolFrom g p (i + 1) → there ≡ childVisits g s x
+  pub calling-turn : (end found i x there part next : ℕ) → Calling end found i → i < end → x ≡ symbolFrom g p (i + 1) → there ≡ visitsIn by x
       → part ≡ raised (8 * (i + 1)) there → next ≡ union part found → Calling end next (i + 1)
   unfolding raised
   calling-turn end found i x there part next w h e f q n =
-      let b : there ≡ childVisits g s (symbolFrom g p (i + 1)) = f ∙ ap (childVisits g s) e in
+      let b : there ≡ visitsIn by (symbolFrom g p (i + 1)) = f ∙ ap (visitsIn by) e in
       record {
         endIs = w .endIs;
         inside = omega arith;
         shaped = w .shaped;
-        few = w .few;
+        tabled = w .tabled;
         foundIs =
             n
             ∙ (ap₂ union (q ∙ ap (λ (y : ℕ). y * 2 ^ (8 * (i + 1))) b) (w .foundIs)
-            ∙ block-more (λ b. visitFrom g s p b) (i + 1) (childVisits g s (symbolFrom g p (i + 1)))
-            (child-small g s (symbolFrom g p (i + 1)) (childVisits g s (symbolFrom g p (i + 1))) (w .few (i + 1) (omega (arith, w .endIs))) refl) (λ a l. visit-bit i a (omega (arith, w .endIs)) l));
+            ∙ block-more (λ b. visitFrom g by p b) (i + 1) (visitsIn by (symbolFrom g p (i + 1)))
+            (w .tabled .small (i + 1) (omega (arith, w .endIs))) (λ a l. visit-bit i a (omega (arith, w .endIs)) l));
       }
 
-  pub calling-finish : (end found i : ℕ) → Calling end found i → end ≤ i → found ≡ visitsFrom g s p
+  pub calling-finish : (end found i : ℕ) → Calling end found i → end ≤ i → found ≡ visitsFrom g by p
   unfolding visitsFrom
   calling-finish end found i w h =
       let e : i ≡ lengthAt g p = omega (arith, w .inside, w .endIs) in
       w .foundIs
-      ∙ (ap (λ (k : ℕ). collect (8 * (k + 1)) (λ b. visitFrom g s p b)) e
-      ∙ sym (collect-rest (8 * (lengthAt g p + 1)) 64 (λ b. visitFrom g s p b) (omega (arith, w .shaped .short)) visit-past))
+      ∙ (ap (λ (k : ℕ). collect (8 * (k + 1)) (λ b. visitFrom g by p b)) e
+      ∙ sym (collect-rest (8 * (lengthAt g p + 1)) 64 (λ b. visitFrom g by p b) (omega (arith, w .shaped .short)) visit-past))

@@ -1,6 +1,6 @@
 pub mod RemainsLaws
+pub mod PartLaws
 pub mod MaskLaws
-pub mod SetMaskLaws
 pub mod BlockSetLaws
 pub mod LeftLaws
 pub mod MemberWalks

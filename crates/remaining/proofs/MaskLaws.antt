@@ -1,7 +1,7 @@
 -- The masks by their members: which attributes are in a set, which occurrences a visit or a leave makes available, which visits are ready.
 -- Assumes nothing.
 use Prim.Native.Nat.{ℕ, _+_, _*_, _-_, _/_, _%_, _≤_, _<_}
-use mathlib.Core.Path.{_≡_, sym, _∙_, ap, subst, subst⁻¹}
+use mathlib.Core.Path.{_≡_, refl, subst, subst⁻¹}
 use mathlib.Core.Logic.{⊎-elim}
 use mathlib.Core.Bool.{Bool}
 use mathlib.Core.List.{List}
@@ -12,45 +12,91 @@ use Rattle.bits.specs.Bit.{hasb, raised, common, field, lowest}
 use Rattle.bits.proofs.BitLaws.{bit-has, bit-lacks}
 use Rattle.bits.proofs.CollectLaws.{collect-lt}
 use Rattle.bits.proofs.LowestLaws.{IsLowest, lowest-is}
-use Rattle.bits.proofs.ShiftLaws.{has-field, has-raised, raised-low}
+use Rattle.bits.proofs.ShiftLaws.{field-lt, has-field, has-raised, raised-low}
 use Rattle.bits.proofs.MemberLaws.{hasb-collect, hasb-below, none-left, no-member, common-both, both-common}
 use Rattle.basics.proofs.TestLaws.{and-intro, and-left, and-right, eq-T, true-T, false-T, below-or-not}
-use Rattle.sets.specs.Visits.{setNumber, visits}
+use Rattle.grammar.specs.Limits.{mostSymbols}
+use Rattle.grammar.specs.Table.{symbols}
+use Rattle.sets.specs.Visits.{setNumber, halfUp, visits}
 use Rattle.access.specs.ByPlace.{symbolFrom}
-use Rattle.remaining.specs.RuleSets.{setMask, inheritedMask, synthesizedMask, handedUp, handedDown, takenAlong, Along, visitReady, readyVisits}
+use Rattle.remaining.specs.RuleSets.{
+  partByVisit,
+  ByVisit,
+  inheritedMask,
+  synthesizedMask,
+  handedUp,
+  handedDown,
+  takenAlong,
+  Along,
+  visitReady,
+  readyVisits,
+}
+use Rattle.remaining.proofs.PartLaws.{set-within, part-at, at-part}
 
-module _ (s : List ℕ) (x k : ℕ) where
-  pub mask-small : setMask s x k < 256
-  unfolding setMask
-  mask-small = collect-lt 8 _
+-- the table has symbol x
+pub record Seen (s by : List ℕ) (x : ℕ) : Type 0 where
+  pub even : word by x ≡ partByVisit s x 0
+  pub odd : word by (mostSymbols + x) ≡ partByVisit s x 1
 
-  -- an attribute is a member exactly where it is in the set
-  pub in-set : (a : ℕ) → T (hasb a (setMask s x k)) → (a < 8) × (setNumber s x a ≡ k)
-  unfolding setMask
-  in-set a t =
-      let h : a < 8 = hasb-below 8 a (setMask s x k) mask-small t in
-      (h, eqb→eq (setNumber s x a) k (subst (λ (b : Bool). T b) (hasb-collect 8 a _ h) t))
+pub seen-symbol : (g s by : List ℕ) (x : ℕ) → ByVisit g s by → x < symbols g → Seen s by x
+seen-symbol g s by x w h = record { even = w .even x h; odd = w .odd x h }
 
-  pub set-in : (a : ℕ) → a < 8 → setNumber s x a ≡ k → T (hasb a (setMask s x k))
-  unfolding setMask
-  set-in a h e = subst⁻¹ (λ (b : Bool). T b) (hasb-collect 8 a _ h) (eq-T (setNumber s x a) k e)
+-- attribute a in a word of a symbol's attributes by visit
+module _ (s : List ℕ) (x odd word n : ℕ) (is : word ≡ partByVisit s x odd) (l : n < 8) where
+  in-part : (a : ℕ) → T (hasb a (field (8 * n) word)) → (a < 8) × (setNumber s x a % 2 ≡ odd) × (visits s x - halfUp (setNumber s x a) ≡ n)
+  unfolding partByVisit
+  in-part a t =
+      let h : a < 8 = hasb-below 8 a (field (8 * n) word) (field-lt (8 * n) word) t in
+      let k = part-at s x odd (8 * n + a) a (omega arith)
+      (subst (λ (b : Bool). T b) (hasb-collect 64 (8 * n + a) _ (omega arith))
+      (subst (λ (y : ℕ). T (hasb (8 * n + a) y)) is (subst (λ (b : Bool). T b) (has-field (8 * n) a word h) t))) in
+      (h, k .0, omega (arith, k .1))
 
--- the attributes of a set at position i
-module _ (s : List ℕ) (x k i : ℕ) where
-  pub raised-at : (o : ℕ) → T (hasb o (raised (8 * i) (setMask s x k))) → (o / 8 ≡ i) × (setNumber s x (o % 8) ≡ k)
-  raised-at o t =
-      ⊎-elim (λ l. absurd (subst (λ (b : Bool). T b) (raised-low (8 * i) o _ l) t))
-      (λ l.
-      let v = in-set s x k (o - 8 * i) (subst (λ (b : Bool). T b) (has-raised (8 * i) o _ l) t) in
-      let e : o - 8 * i ≡ o % 8 = omega (arith, v .0) in
-      (omega (arith, v .0), ap (λ (a : ℕ). setNumber s x a) (sym e) ∙ v .1))
-      (below-or-not o (8 * i))
+  part-in : (a : ℕ) → a < 8 → setNumber s x a % 2 ≡ odd → visits s x - halfUp (setNumber s x a) ≡ n → T (hasb a (field (8 * n) word))
+  unfolding partByVisit
+  part-in a h e f =
+      subst⁻¹ (λ (b : Bool). T b) (has-field (8 * n) a word h)
+      (subst⁻¹ (λ (y : ℕ). T (hasb (8 * n + a) y)) is
+      (subst⁻¹ (λ (b : Bool). T b) (hasb-collect 64 (8 * n + a) _ (omega arith))
+      (at-part s x odd (8 * n + a) a (omega arith) e (omega (arith, f)))))
 
-  pub at-raised : (o : ℕ) → o / 8 ≡ i → setNumber s x (o % 8) ≡ k → T (hasb o (raised (8 * i) (setMask s x k)))
-  at-raised o q e =
-      let f : o - 8 * i ≡ o % 8 = omega arith in
-      subst⁻¹ (λ (b : Bool). T b) (has-raised (8 * i) o _ (omega arith))
-      (subst⁻¹ (λ (a : ℕ). T (hasb a (setMask s x k))) f (set-in s x k (o % 8) (omega arith) e))
+-- an attribute is a member exactly where it is in the set of the visit
+module _ (s by : List ℕ) (x n : ℕ) (seen : Seen s by x) (l : n < 8) where
+  pub in-inherited : n ≤ visits s x → (a : ℕ) → T (hasb a (inheritedMask by x n)) → (a < 8) × (setNumber s x a ≡ 2 * (visits s x + 1 - (n + 1)))
+  unfolding inheritedMask
+  in-inherited h a t =
+      let k = in-part s x 0 (word by x) n (seen .even) l a t in
+      (k .0, omega (arith, k .1, k .2, set-within s x a (k .0)))
+
+  pub inherited-in : n ≤ visits s x → (a : ℕ) → a < 8 → setNumber s x a ≡ 2 * (visits s x + 1 - (n + 1)) → T (hasb a (inheritedMask by x n))
+  unfolding inheritedMask
+  inherited-in h a k e = part-in s x 0 (word by x) n (seen .even) l a k (omega (arith, e)) (omega (arith, e))
+
+  pub in-synthesized : n < visits s x → (a : ℕ) → T (hasb a (synthesizedMask by x n)) → (a < 8) × (setNumber s x a ≡ 2 * (visits s x + 1 - (n + 1)) - 1)
+  unfolding synthesizedMask
+  in-synthesized h a t =
+      let k = in-part s x 1 (word by (mostSymbols + x)) n (seen .odd) l a t in
+      (k .0, omega (arith, k .1, k .2, set-within s x a (k .0)))
+
+  pub synthesized-in : n < visits s x → (a : ℕ) → a < 8 → setNumber s x a ≡ 2 * (visits s x + 1 - (n + 1)) - 1 → T (hasb a (synthesizedMask by x n))
+  unfolding synthesizedMask
+  synthesized-in h a k e = part-in s x 1 (word by (mostSymbols + x)) n (seen .odd) l a k (omega (arith, e)) (omega (arith, e))
+
+-- a set of attributes at position i
+pub raised-at : (mask i o : ℕ) → mask < 256 → T (hasb o (raised (8 * i) mask)) → (o / 8 ≡ i) × T (hasb (o % 8) mask)
+raised-at mask i o small t =
+    ⊎-elim (λ l. absurd (subst (λ (b : Bool). T b) (raised-low (8 * i) o _ l) t))
+    (λ l.
+    let u = subst (λ (b : Bool). T b) (has-raised (8 * i) o mask l) t in
+    let h : o - 8 * i < 8 = hasb-below 8 (o - 8 * i) mask small u in
+    let e : o - 8 * i ≡ o % 8 = omega arith in
+    (omega arith, subst (λ (a : ℕ). T (hasb a mask)) e u))
+    (below-or-not o (8 * i))
+
+pub at-raised : (mask i o : ℕ) → o / 8 ≡ i → T (hasb (o % 8) mask) → T (hasb o (raised (8 * i) mask))
+at-raised mask i o q t =
+    let f : o - 8 * i ≡ o % 8 = omega arith in
+    subst⁻¹ (λ (b : Bool). T b) (has-raised (8 * i) o mask (omega arith)) (subst⁻¹ (λ (a : ℕ). T (hasb a mask)) f t)
 
 -- b is the lowest of its eight places
 pub next-of : (left b : ℕ) → T (leb (b % 8) (lowest 64 (field (8 * (b / 8)) left))) → (k : ℕ) → k < b % 8
@@ -72,74 +118,97 @@ of-next left b w = ⊎-elim low (λ l. le→leb _ _ l) (below-or-not (lowest 64 
         (subst (λ (x : Bool). T x) (has-field (8 * (b / 8)) (lowest 64 (field (8 * (b / 8)) left)) left (omega arith))
         (true-T _ (bit-has _ _ (f .member (omega arith))))))
 
-module _ (g s : List ℕ) (p : ℕ) where
-  -- what visit b makes available stands at its child and in the odd set
-  pub up-at : (b o : ℕ) → T (hasb o (handedUp g s p b))
-      → (o / 8 ≡ b / 8)
-      × (setNumber s (symbolFrom g p (b / 8)) (o % 8) ≡ 2 * (visits s (symbolFrom g p (b / 8)) + 1 - (b % 8 + 1)) - 1)
-  unfolding handedUp synthesizedMask
-  up-at b o t = raised-at s (symbolFrom g p (b / 8)) _ (b / 8) o t
+pub inherited-small : (by : List ℕ) (x n mask : ℕ) → mask ≡ inheritedMask by x n → mask < 256
+unfolding inheritedMask
+inherited-small by x n mask e = subst⁻¹ (λ (y : ℕ). y < 256) e (field-lt (8 * n) (word by x))
 
-  pub at-up : (b o : ℕ) → o / 8 ≡ b / 8
-      → setNumber s (symbolFrom g p (b / 8)) (o % 8) ≡ 2 * (visits s (symbolFrom g p (b / 8)) + 1 - (b % 8 + 1)) - 1
-      → T (hasb o (handedUp g s p b))
-  unfolding handedUp synthesizedMask
-  at-up b o q e = at-raised s (symbolFrom g p (b / 8)) _ (b / 8) o q e
+pub synthesized-small : (by : List ℕ) (x n mask : ℕ) → mask ≡ synthesizedMask by x n → mask < 256
+unfolding synthesizedMask
+synthesized-small by x n mask e = subst⁻¹ (λ (y : ℕ). y < 256) e (field-lt (8 * n) (word by (mostSymbols + x)))
+
+-- the table has the symbol of each of these visits, and it has so many
+abbrev pub SeenVisits : List ℕ → List ℕ → List ℕ → ℕ → ℕ → Type 0
+SeenVisits g s by p left =
+    (b : ℕ) → b < 64 → T (hasb b left) → Seen s by (symbolFrom g p (b / 8)) × (b % 8 < visits s (symbolFrom g p (b / 8)))
+
+module _ (g s by : List ℕ) (p : ℕ) where
+  -- what visit b makes available stands at its child and in the odd set
+  module _ (b : ℕ) (seen : Seen s by (symbolFrom g p (b / 8))) (inside : b % 8 < visits s (symbolFrom g p (b / 8))) where
+    pub up-at : (o : ℕ) → T (hasb o (handedUp g by p b))
+        → (o / 8 ≡ b / 8)
+        × (setNumber s (symbolFrom g p (b / 8)) (o % 8) ≡ 2 * (visits s (symbolFrom g p (b / 8)) + 1 - (b % 8 + 1)) - 1)
+    unfolding handedUp
+    up-at o t =
+        let u = raised-at _ (b / 8) o (synthesized-small by (symbolFrom g p (b / 8)) (b % 8) _ refl) t in
+        (u .0, in-synthesized s by (symbolFrom g p (b / 8)) (b % 8) seen (omega arith) inside (o % 8) (u .1) .1)
+
+    pub at-up : (o : ℕ) → o / 8 ≡ b / 8
+        → setNumber s (symbolFrom g p (b / 8)) (o % 8) ≡ 2 * (visits s (symbolFrom g p (b / 8)) + 1 - (b % 8 + 1)) - 1
+        → T (hasb o (handedUp g by p b))
+    unfolding handedUp
+    at-up o q e =
+        at-raised _ (b / 8) o q (synthesized-in s by (symbolFrom g p (b / 8)) (b % 8) seen (omega arith) inside (o % 8) (omega arith) e)
 
   -- what leave b makes available stands at the left side and in the even set of the next visit
-  pub down-at : (b o : ℕ) → T (hasb o (handedDown g s p b))
-      → (o < 8) × (setNumber s (symbolFrom g p 0) o ≡ 2 * (visits s (symbolFrom g p 0) + 1 - (b + 2)))
-  unfolding handedDown inheritedMask
-  down-at b o t = in-set s (symbolFrom g p 0) _ o t
+  module _ (b : ℕ) (seen : Seen s by (symbolFrom g p 0)) (low : b < 7) (inside : b < visits s (symbolFrom g p 0)) where
+    pub down-at : (o : ℕ) → T (hasb o (handedDown g by p b))
+        → (o < 8) × (setNumber s (symbolFrom g p 0) o ≡ 2 * (visits s (symbolFrom g p 0) + 1 - (b + 2)))
+    unfolding handedDown
+    down-at o t =
+        let u = in-inherited s by (symbolFrom g p 0) (b + 1) seen (omega arith) (omega arith) o t in (u .0, omega (arith, u .1))
 
-  pub at-down : (b o : ℕ) → o < 8 → setNumber s (symbolFrom g p 0) o ≡ 2 * (visits s (symbolFrom g p 0) + 1 - (b + 2))
-      → T (hasb o (handedDown g s p b))
-  unfolding handedDown inheritedMask
-  at-down b o l e = set-in s (symbolFrom g p 0) _ o l e
+    pub at-down : (o : ℕ) → o < 8 → setNumber s (symbolFrom g p 0) o ≡ 2 * (visits s (symbolFrom g p 0) + 1 - (b + 2))
+        → T (hasb o (handedDown g by p b))
+    unfolding handedDown
+    at-down o l e = inherited-in s by (symbolFrom g p 0) (b + 1) seen (omega arith) (omega arith) o l (omega (arith, e))
 
+module _ (g s : List ℕ) (p : ℕ) where
   -- visit b is ready by the test
   pub record Passes (left waiting b : ℕ) : Type 0 where
     pub next : (k : ℕ) → k < b % 8 → T (hasb (8 * (b / 8) + k) left) → ⊥
     pub handed : (a : ℕ) → a < 8 → T (hasb (8 * (b / 8) + a) waiting)
         → setNumber s (symbolFrom g p (b / 8)) a ≡ 2 * (visits s (symbolFrom g p (b / 8)) + 1 - (b % 8 + 1)) → ⊥
 
-  pub passes : (down : List ℕ) (left waiting b : ℕ) → word down b ≡ takenAlong g s p b → T (visitReady down left waiting b) → Passes left waiting b
-  unfolding visitReady takenAlong inheritedMask
-  passes down left waiting b d t =
-      record {
-        next = λ k l u. next-of left b (and-left _ _ t) k l u;
-        handed = λ a l u e.
-            let own : (8 * (b / 8) + a) % 8 ≡ a = omega arith in
-            T-not (hasb (8 * (b / 8) + a) 0) (none-left (8 * (b / 8) + a))
-            (subst (λ (x : ℕ). T (hasb (8 * (b / 8) + a) x)) (eqb→eq _ _ (and-right _ _ t))
-            (both-common (8 * (b / 8) + a) _ _
-            (subst⁻¹ (λ (x : ℕ). T (hasb (8 * (b / 8) + a) x)) d
-            (at-raised s (symbolFrom g p (b / 8)) _ (b / 8) (8 * (b / 8) + a) (omega arith)
-            (ap (λ (y : ℕ). setNumber s (symbolFrom g p (b / 8)) y) own ∙ e))) u));
-      }
+module _ (g s by : List ℕ) (p : ℕ) (down : List ℕ) (left waiting : ℕ) (seen : SeenVisits g s by p left) (along : Along g by p left down) where
+  module _ (b : ℕ) (h : b < 64) (i : T (hasb b left)) where
+    passes : T (visitReady down left waiting b) → Passes g s p left waiting b
+    unfolding visitReady takenAlong
+    passes t =
+        record {
+          next = λ k l u. next-of left b (and-left _ _ t) k l u;
+          handed = λ a l u e.
+              let own : (8 * (b / 8) + a) % 8 ≡ a = omega arith in
+              let v = seen b h i in
+              T-not (hasb (8 * (b / 8) + a) 0) (none-left (8 * (b / 8) + a))
+              (subst (λ (x : ℕ). T (hasb (8 * (b / 8) + a) x)) (eqb→eq _ _ (and-right _ _ t))
+              (both-common (8 * (b / 8) + a) _ _
+              (subst⁻¹ (λ (x : ℕ). T (hasb (8 * (b / 8) + a) x)) (along .is b h i)
+              (at-raised _ (b / 8) (8 * (b / 8) + a) (omega arith)
+              (subst⁻¹ (λ (y : ℕ). T (hasb y (inheritedMask by (symbolFrom g p (b / 8)) (b % 8)))) own
+              (inherited-in s by (symbolFrom g p (b / 8)) (b % 8) (v .0) (omega arith) (omega (arith, v .1)) a l e)))) u));
+        }
 
-  pub passing : (down : List ℕ) (left waiting b : ℕ) → word down b ≡ takenAlong g s p b → Passes left waiting b → T (visitReady down left waiting b)
-  unfolding visitReady takenAlong inheritedMask
-  passing down left waiting b d w =
-      and-intro _ _ (of-next left b (w .next))
-      (eq-T _ _ (no-member (common (word down b) waiting)
-      (λ o t.
-      let v = common-both o (word down b) waiting t in
-      let u = raised-at s (symbolFrom g p (b / 8)) _ (b / 8) o (subst (λ (x : ℕ). T (hasb o x)) d (v .0)) in
-      let e : o ≡ 8 * (b / 8) + o % 8 = omega (arith, u .0) in
-      w .handed (o % 8) (omega arith) (subst (λ (x : ℕ). T (hasb x waiting)) e (v .1)) (u .1))))
+    passing : Passes g s p left waiting b → T (visitReady down left waiting b)
+    unfolding visitReady takenAlong
+    passing w =
+        and-intro _ _ (of-next left b (w .next))
+        (eq-T _ _ (no-member (common (word down b) waiting)
+        (λ o t.
+        let v = common-both o (word down b) waiting t in
+        let k = seen b h i in
+        let u = raised-at _ (b / 8) o (inherited-small by (symbolFrom g p (b / 8)) (b % 8) _ refl) (subst (λ (x : ℕ). T (hasb o x)) (along .is b h i) (v .0)) in
+        let e : o ≡ 8 * (b / 8) + o % 8 = omega (arith, u .0) in
+        w .handed (o % 8) (omega arith) (subst (λ (x : ℕ). T (hasb x waiting)) e (v .1))
+        (in-inherited s by (symbolFrom g p (b / 8)) (b % 8) (k .0) (omega arith) (omega (arith, k .1)) (o % 8) (u .1) .1))))
 
   -- the visits that are ready
-  pub ready-at : (down : List ℕ) (left waiting b : ℕ) → Along g s p left down → T (hasb b (readyVisits down left waiting))
-      → (b < 64) × T (hasb b left) × Passes left waiting b
+  pub ready-at : (b : ℕ) → T (hasb b (readyVisits down left waiting)) → (b < 64) × T (hasb b left) × Passes g s p left waiting b
   unfolding readyVisits
-  ready-at down left waiting b along t =
+  ready-at b t =
       let h : b < 64 = hasb-below 64 b (readyVisits down left waiting) (collect-lt 64 _) t in
       let u = subst (λ (x : Bool). T x) (hasb-collect 64 b _ h) t in
-      (h, and-left _ _ u, passes down left waiting b (along .is b h (and-left _ _ u)) (and-right _ _ u))
+      (h, and-left _ _ u, passes b h (and-left _ _ u) (and-right _ _ u))
 
-  pub at-ready : (down : List ℕ) (left waiting b : ℕ) → Along g s p left down → b < 64 → T (hasb b left) → Passes left waiting b
-      → T (hasb b (readyVisits down left waiting))
+  pub at-ready : (b : ℕ) → b < 64 → T (hasb b left) → Passes g s p left waiting b → T (hasb b (readyVisits down left waiting))
   unfolding readyVisits
-  at-ready down left waiting b along h t w =
-      subst⁻¹ (λ (x : Bool). T x) (hasb-collect 64 b _ h) (and-intro _ _ t (passing down left waiting b (along .is b h t) w))
+  at-ready b h t w = subst⁻¹ (λ (x : Bool). T x) (hasb-collect 64 b _ h) (and-intro _ _ t (passing b h t w))

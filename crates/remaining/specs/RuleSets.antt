@@ -9,33 +9,47 @@ use lib.Dec.{T, ltb, leb, eqb}
 use Rattle.basics.specs.Tests.{_and_, _or_}
 use Rattle.basics.specs.Lists.{word}
 use Rattle.bits.specs.Bit.{hasb, collect, remove, below, raised, field, common, minus, lowest}
-use Rattle.grammar.specs.Table.{attributes, nonterminal, lengthAt, position, attribute}
+use Rattle.grammar.specs.Limits.{mostSymbols}
+use Rattle.grammar.specs.Table.{symbols, attributes, nonterminal, lengthAt, position, attribute}
 use Rattle.access.specs.ByPlace.{symbolFrom, definingsAt}
-use Rattle.sets.specs.Visits.{setNumber, visits}
+use Rattle.sets.specs.Visits.{setNumber, halfUp, visits}
 
--- the attributes of symbol x that are in set k
-unfoldable pub setMask : List ℕ → ℕ → ℕ → ℕ
-setMask s x k = collect 8 (λ a. eqb (setNumber s x a) k)
+-- "Set k belongs to visit v + 1 - (k/2 rounded up)": attribute j % 8 of symbol x is in an even (0) or odd (1) set, of visit j / 8 + 1
+unfoldable pub partAt : List ℕ → ℕ → ℕ → ℕ → Bool
+partAt s x odd j =
+    eqb (setNumber s x (j % 8) % 2) odd and eqb (visits s x - halfUp (setNumber s x (j % 8))) (j / 8)
 
--- "Set k belongs to visit v + 1 - (k/2 rounded up)": the even set of visit n, and the odd one
-unfoldable pub inheritedMask : List ℕ → ℕ → ℕ → ℕ
-inheritedMask s x n = setMask s x (2 * (visits s x + 1 - n))
+-- the attributes of symbol x in even or odd sets, those of visit n from place 8 (n - 1) on
+unfoldable pub partByVisit : List ℕ → ℕ → ℕ → ℕ
+partByVisit s x odd = collect 64 (λ j. partAt s x odd j)
 
-unfoldable pub synthesizedMask : List ℕ → ℕ → ℕ → ℕ
-synthesizedMask s x n = setMask s x (2 * (visits s x + 1 - n) - 1)
-
--- the visits of a child, counted from 0, and the attributes that some action makes available; a terminal has none
-unfoldable pub childVisits : List ℕ → List ℕ → ℕ → ℕ
-childVisits g s x = cond (nonterminal g x) (below (visits s x)) 0
+-- the visits of a symbol that has so many, counted from 0, and the attributes that some action makes available; a terminal has none
+unfoldable pub symbolVisits : List ℕ → ℕ → ℕ → ℕ
+symbolVisits g x v = cond (nonterminal g x) (below v) 0
 
 unfoldable pub madeAttributes : List ℕ → ℕ → ℕ
 madeAttributes g x = cond (nonterminal g x) (below (attributes g x)) 0
 
+-- a table of this for every symbol
+pub record ByVisit (g s by : List ℕ) : Type 0 where
+  pub even : (x : ℕ) → x < symbols g → word by x ≡ partByVisit s x 0
+  pub odd : (x : ℕ) → x < symbols g → word by (mostSymbols + x) ≡ partByVisit s x 1
+  pub calls : (x : ℕ) → x < symbols g → word by (2 * mostSymbols + x) ≡ symbolVisits g x (visits s x)
+
+-- in such a table the inherited attributes of a visit of symbol x, counted from 0, the synthesized ones, and all its visits
+unfoldable pub inheritedMask : List ℕ → ℕ → ℕ → ℕ
+inheritedMask by x n = field (8 * n) (word by x)
+
+unfoldable pub synthesizedMask : List ℕ → ℕ → ℕ → ℕ
+synthesizedMask by x n = field (8 * n) (word by (mostSymbols + x))
+
+unfoldable pub visitsIn : List ℕ → ℕ → ℕ
+visitsIn by x = word by (2 * mostSymbols + x)
+
 -- b is visit b % 8 + 1 of a nonterminal child, and o the occurrence of a nonterminal, in the rule at word p
 unfoldable pub visitFrom : List ℕ → List ℕ → ℕ → ℕ → Bool
-visitFrom g s p b =
-    let x = symbolFrom g p (b / 8) in
-    (leb 1 (b / 8) and leb (b / 8) (lengthAt g p)) and (nonterminal g x and ltb (b % 8) (visits s x))
+visitFrom g by p b =
+    (leb 1 (b / 8) and leb (b / 8) (lengthAt g p)) and hasb (b % 8) (visitsIn by (symbolFrom g p (b / 8)))
 
 unfoldable pub madeFrom : List ℕ → ℕ → ℕ → Bool
 madeFrom g p o =
@@ -44,42 +58,47 @@ madeFrom g p o =
 
 -- all of them as sets
 unfoldable pub visitsFrom : List ℕ → List ℕ → ℕ → ℕ
-visitsFrom g s p = collect 64 (λ b. visitFrom g s p b)
+visitsFrom g by p = collect 64 (λ b. visitFrom g by p b)
 
 unfoldable pub occurrencesFrom : List ℕ → ℕ → ℕ
 occurrencesFrom g p = collect 64 (λ o. madeFrom g p o)
 
--- "v at most 5", of the symbols of the rule at word p
-abbrev pub Few : List ℕ → ℕ → List ℕ → Type 0
-Few g p s = (i : ℕ) → i ≤ lengthAt g p → visits s (symbolFrom g p i) ≤ 5
+-- "v at most 5"
+abbrev pub FewVisits : List ℕ → Type 0
+FewVisits s = (x : ℕ) → visits s x ≤ 5
+
+-- the table has the symbols of the rule at word p, and their visits fit eight bits
+pub record Tabled (g by : List ℕ) (p : ℕ) : Type 0 where
+  pub low : (i : ℕ) → i ≤ lengthAt g p → symbolFrom g p i < mostSymbols
+  pub small : (i : ℕ) → i ≤ lengthAt g p → visitsIn by (symbolFrom g p i) < 256
 
 -- Before the first action all are left, and what waits are the occurrences of nonterminals but for the left side's inherited ones of visit 1.
-pub record Started (g s : List ℕ) (p computes left leaves waiting : ℕ) : Type 0 where
+pub record Started (g by : List ℕ) (p computes left leaves waiting : ℕ) : Type 0 where
   pub computesAre : computes ≡ definingsAt g p
-  pub visitsAre : left ≡ collect 64 (λ b. visitFrom g s p b)
-  pub leavesAre : leaves ≡ below (visits s (symbolFrom g p 0))
-  pub waitingAre : waiting ≡ minus (collect 64 (λ o. madeFrom g p o)) (inheritedMask s (symbolFrom g p 0) 1)
+  pub visitsAre : left ≡ collect 64 (λ b. visitFrom g by p b)
+  pub leavesAre : leaves ≡ visitsIn by (symbolFrom g p 0)
+  pub waitingAre : waiting ≡ minus (collect 64 (λ o. madeFrom g p o)) (inheritedMask by (symbolFrom g p 0) 0)
 
 -- what visit b of the rule at word p makes available, and what leave b does
 unfoldable pub handedUp : List ℕ → List ℕ → ℕ → ℕ → ℕ
-handedUp g s p b = raised (8 * (b / 8)) (synthesizedMask s (symbolFrom g p (b / 8)) (b % 8 + 1))
+handedUp g by p b = raised (8 * (b / 8)) (synthesizedMask by (symbolFrom g p (b / 8)) (b % 8))
 
 unfoldable pub handedDown : List ℕ → List ℕ → ℕ → ℕ → ℕ
-handedDown g s p b = inheritedMask s (symbolFrom g p 0) (b + 2)
+handedDown g by p b = inheritedMask by (symbolFrom g p 0) (b + 1)
 
--- the members of a set of visits are visits of children, and those of a set of leaves leaves of the left side
-abbrev pub Children : List ℕ → List ℕ → ℕ → ℕ → Type 0
-Children g s p left = (b : ℕ) → b < 64 → T (hasb b left) → b % 8 < visits s (symbolFrom g p (b / 8))
+-- the members of a set of visits are visits of symbols of the grammar, and those of a set of leaves are few
+abbrev pub Children : List ℕ → ℕ → ℕ → Type 0
+Children g p left = (b : ℕ) → b < 64 → T (hasb b left) → symbolFrom g p (b / 8) < mostSymbols
 
-abbrev pub LeftLeaves : List ℕ → List ℕ → ℕ → ℕ → Type 0
-LeftLeaves g s p left = (b : ℕ) → T (hasb b left) → b < visits s (symbolFrom g p 0)
+abbrev pub FewLeaves : ℕ → Type 0
+FewLeaves left = (b : ℕ) → T (hasb b left) → b < 7
 
 -- what visit b takes along, and a table of it for the visits that are left
 unfoldable pub takenAlong : List ℕ → List ℕ → ℕ → ℕ → ℕ
-takenAlong g s p b = raised (8 * (b / 8)) (inheritedMask s (symbolFrom g p (b / 8)) (b % 8 + 1))
+takenAlong g by p b = raised (8 * (b / 8)) (inheritedMask by (symbolFrom g p (b / 8)) (b % 8))
 
-pub record Along (g s : List ℕ) (p left : ℕ) (down : List ℕ) : Type 0 where
-  pub is : (b : ℕ) → b < 64 → T (hasb b left) → word down b ≡ takenAlong g s p b
+pub record Along (g by : List ℕ) (p left : ℕ) (down : List ℕ) : Type 0 where
+  pub is : (b : ℕ) → b < 64 → T (hasb b left) → word down b ≡ takenAlong g by p b
 
 -- Visit b is ready, by the visits that are left and the occurrences that wait: it is the lowest of its child, and nothing that it takes along
 -- waits.
@@ -101,10 +120,10 @@ others computes left = collect 64 (λ k. hasb k computes or hasb k left)
 
 -- leave b is ready: it is the lowest, and free
 unfoldable pub leaveReady : List ℕ → List ℕ → ℕ → ℕ → ℕ → ℕ → ℕ → ℕ → Bool
-leaveReady g s p computes left leaves waiting b =
+leaveReady g by p computes left leaves waiting b =
     leb b (lowest 64 leaves)
-    and leaveFree (common (synthesizedMask s (symbolFrom g p 0) (b + 1)) waiting) (remove b leaves) (others computes left)
+    and leaveFree (common (synthesizedMask by (symbolFrom g p 0) b) waiting) (remove b leaves) (others computes left)
 
 -- the leaves that are ready
 unfoldable pub readyLeaves : List ℕ → List ℕ → ℕ → ℕ → ℕ → ℕ → ℕ → ℕ
-readyLeaves g s p computes left leaves waiting = collect 64 (λ b. hasb b leaves and leaveReady g s p computes left leaves waiting b)
+readyLeaves g by p computes left leaves waiting = collect 64 (λ b. hasb b leaves and leaveReady g by p computes left leaves waiting b)

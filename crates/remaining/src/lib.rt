@@ -4,11 +4,16 @@ use grammar::ROWS;
 ghost use mathlib.Core.Path.{_≡_};
 ghost use Prim.Native.Nat.{_+_, _*_, _-_, _/_, _%_, _≤_, _<_, max};
 ghost use Rattle.bits.specs.Bit as bit;
+ghost use Rattle.grammar.specs.Limits as limits;
 ghost use Rattle.grammar.specs.Table as table;
 ghost use Rattle.access.specs.ByPlace as places;
 ghost use Rattle.sets.specs.Visits as visiting;
 ghost use Rattle.remaining.specs.RuleSets as masks;
 ghost use Rattle.remaining.specs.Remaining as spec;
+
+// What is kept of each symbol by visit: word x has its inherited attributes, those of visit n from bit 8 (n - 1) on, word 32 + x its
+// synthesized ones in the same way, and word 64 + x its visits.
+pub type ByVisit = [u64; 96];
 
 // The actions that are left, as bits: a compute by its occurrence, visit n of child i as 8i + (n - 1), leave n as n - 1.
 // An occurrence waits while an action that makes it available is left.
@@ -34,18 +39,6 @@ fn larger(a: usize, b: usize) -> usize
     a
 }
 
-// The attributes of symbol x that are in set k.
-fn set_mask(sets: &[u16], x: usize, k: usize) -> u64
-    requires { ⌜ x < 65536 ⌝ }
-    ensures { λ r. ⌜ r ≡ masks.setMask (now (sets .entry)) x k ⌝ }
-{
-    let mut mask = 0;
-    for a in 0..8usize {
-        mask = bits::put(mask, a, access::word(sets, 8 * x + a) == k);
-    }
-    mask
-}
-
 // The last set of symbol x.
 fn last_set(sets: &[u16], x: usize) -> usize
     requires { ⌜ x < 65536 ⌝ }
@@ -68,47 +61,84 @@ pub fn visits_of(sets: &[u16], x: usize) -> usize
     larger(1, (last_set(sets, x) + 1) / 2)
 }
 
-// The inherited attributes of visit n of symbol x, which it takes along.
-fn inherited_of(sets: &[u16], x: usize, n: usize) -> u64
+// The attributes of symbol x whose sets are even (0) or odd (1): those of visit n have the places from 8 (n - 1) on.
+fn part_by_visit(sets: &[u16], x: usize, visits: usize, odd: usize) -> u64
     requires { ⌜ x < 65536 ⌝ }
-    requires { ⌜ n ≤ visiting.visits (now sets) x + 1 ⌝ }
-    ensures { λ r. ⌜ r ≡ masks.inheritedMask (now (sets .entry)) x n ⌝ }
+    requires { ⌜ visits ≡ visiting.visits (now sets) x ⌝ }
+    requires { ⌜ visits ≤ 5 ⌝ }
+    ensures { λ r. ⌜ r ≡ masks.partByVisit (now (sets .entry)) x odd ⌝ }
 {
-    set_mask(sets, x, 2 * (visits_of(sets, x) + 1 - n))
+    let mut part = 0;
+    for a in 0..8usize {
+        let k = access::word(sets, 8 * x + a);
+        part = bits::put(part, 8 * (visits - (k + 1) / 2) + a, k % 2 == odd);
+    }
+    part
 }
 
-// The synthesized ones, which it makes available.
-fn synthesized_of(sets: &[u16], x: usize, n: usize) -> u64
+// The visits of symbol x, counted from 0; a terminal has none.
+fn symbol_visits(words: &[u16], x: usize, visits: usize) -> u64
     requires { ⌜ x < 65536 ⌝ }
-    requires { ⌜ n ≤ visiting.visits (now sets) x ⌝ }
-    ensures { λ r. ⌜ r ≡ masks.synthesizedMask (now (sets .entry)) x n ⌝ }
-{
-    set_mask(sets, x, 2 * (visits_of(sets, x) + 1 - n) - 1)
-}
-
-// The visits of a child, counted from 0; a terminal has none.
-fn child_visits(words: &[u16], sets: &[u16], x: usize) -> u64
-    requires { ⌜ x < 65536 ⌝ }
-    requires { ⌜ visiting.visits (now sets) x ≤ 5 ⌝ }
-    ensures { λ r. ⌜ r ≡ masks.childVisits (now (words .entry)) (now (sets .entry)) x ⌝ }
+    requires { ⌜ visits ≤ 5 ⌝ }
+    ensures { λ r. ⌜ r ≡ masks.symbolVisits (now (words .entry)) x visits ⌝ }
 {
     if access::nonterminal(words, x) {
-        return bits::below(visits_of(sets, x));
+        return bits::below(visits);
     }
     0
 }
 
+// What is kept of each symbol, found once a grammar, since every visit and leave asks for it.
+pub fn by_visit(words: &[u16], sets: &[u16]) -> ByVisit
+    requires { ⌜ table.symbols (now words) ≤ limits.mostSymbols ⌝ }
+    requires { ⌜ masks.FewVisits (now sets) ⌝ }
+    ensures { λ by. ⌜ masks.ByVisit (now (words .entry)) (now (sets .entry)) by ⌝ }
+{
+    let mut by = [0u64; 96];
+    for x in 0..access::symbols(words) {
+        let visits = visits_of(sets, x);
+        by[x] = part_by_visit(sets, x, visits, 0);
+        by[32 + x] = part_by_visit(sets, x, visits, 1);
+        by[64 + x] = symbol_visits(words, x, visits);
+    }
+    by
+}
+
+// The inherited attributes of a visit of symbol x, counted from 0, which it takes along.
+fn inherited_of(by: &ByVisit, x: usize, n: usize) -> u64
+    requires { ⌜ (x < limits.mostSymbols) × (n < 8) ⌝ }
+    ensures { λ r. ⌜ r ≡ masks.inheritedMask (now (by .entry)) x n ⌝ }
+{
+    bits::field(by[x], 8 * n)
+}
+
+// The synthesized ones, which it makes available.
+fn synthesized_of(by: &ByVisit, x: usize, n: usize) -> u64
+    requires { ⌜ (x < limits.mostSymbols) × (n < 8) ⌝ }
+    ensures { λ r. ⌜ r ≡ masks.synthesizedMask (now (by .entry)) x n ⌝ }
+{
+    bits::field(by[32 + x], 8 * n)
+}
+
+// Its visits, counted from 0; a terminal has none.
+fn visits_in(by: &ByVisit, x: usize) -> u64
+    requires { ⌜ x < limits.mostSymbols ⌝ }
+    ensures { λ r. ⌜ r ≡ masks.visitsIn (now (by .entry)) x ⌝ }
+{
+    by[64 + x]
+}
+
 // The visits of all children of the rule at word p.
-fn all_visits(words: &[u16], p: usize, sets: &[u16]) -> u64
+fn all_visits(words: &[u16], p: usize, by: &ByVisit) -> u64
     requires { ⌜ p < 65536 ⌝ }
     requires { ⌜ places.Shaped (now words) p ⌝ }
-    requires { ⌜ masks.Few (now words) p (now sets) ⌝ }
-    ensures { λ r. ⌜ r ≡ masks.visitsFrom (now (words .entry)) (now (sets .entry)) p ⌝ }
+    requires { ⌜ masks.Tabled (now words) (now by) p ⌝ }
+    ensures { λ r. ⌜ r ≡ masks.visitsFrom (now (words .entry)) (now (by .entry)) p ⌝ }
 {
     let n = access::right_length(words, p);
     let mut visits = 0;
     for i in 0..n {
-        let child = child_visits(words, sets, access::symbol_of(words, p, i + 1));
+        let child = visits_in(by, access::symbol_of(words, p, i + 1));
         visits = bits::union(bits::raised(child, 8 * (i + 1)), visits);
     }
     visits
@@ -142,33 +172,33 @@ fn made_occurrences(words: &[u16], p: usize) -> u64
 }
 
 // Before the first action. The left side's inherited attributes of visit 1 are available from the start.
-pub fn start(words: &[u16], p: usize, sets: &[u16]) -> State
+pub fn start(words: &[u16], p: usize, by: &ByVisit) -> State
     requires { ⌜ p < 65536 ⌝ }
     requires { ⌜ places.Shaped (now words) p ⌝ }
-    requires { ⌜ masks.Few (now words) p (now sets) ⌝ }
-    ensures { λ r. ⌜ masks.Started (now (words .entry)) (now (sets .entry)) p (r .computes) (r .visits) (r .leaves) (r .waiting) ⌝ }
+    requires { ⌜ masks.Tabled (now words) (now by) p ⌝ }
+    ensures { λ r. ⌜ masks.Started (now (words .entry)) (now (by .entry)) p (r .computes) (r .visits) (r .leaves) (r .waiting) ⌝ }
 {
     let left = access::symbol_of(words, p, 0);
     State {
         computes: access::defining_set(words, p),
-        visits: all_visits(words, p, sets),
-        leaves: bits::below(visits_of(sets, left)),
-        waiting: bits::minus(made_occurrences(words, p), inherited_of(sets, left, 1)),
+        visits: all_visits(words, p, by),
+        leaves: visits_in(by, left),
+        waiting: bits::minus(made_occurrences(words, p), inherited_of(by, left, 0)),
     }
 }
 
 // What each of the visits takes along, found once a rule: the child's inherited attributes of that visit.
-pub fn taken_along(words: &[u16], p: usize, sets: &[u16], visits: u64) -> [u64; ROWS]
+pub fn taken_along(words: &[u16], p: usize, by: &ByVisit, visits: u64) -> [u64; ROWS]
     requires { ⌜ p < 65536 ⌝ }
-    requires { ⌜ masks.Children (now words) (now sets) p visits ⌝ }
-    ensures { λ down. ⌜ masks.Along (now (words .entry)) (now (sets .entry)) p visits down ⌝ }
+    requires { ⌜ masks.Children (now words) p visits ⌝ }
+    ensures { λ down. ⌜ masks.Along (now (words .entry)) (now (by .entry)) p visits down ⌝ }
 {
     let mut down = [0u64; ROWS];
     let mut left = visits;
     while left != 0 {
         let b = bits::first(left);
         let i = b / 8;
-        let mask = inherited_of(sets, access::symbol_of(words, p, i), b % 8 + 1);
+        let mask = inherited_of(by, access::symbol_of(words, p, i), b % 8);
         down[b] = bits::raised(mask, 8 * i);
         left = bits::rest(left);
     }
@@ -190,10 +220,10 @@ pub fn ready_visits(down: &[u64; ROWS], visits: u64, waiting: u64) -> u64
 }
 
 // The leaves that are ready. Only the next one can be: the last one where nothing else is left, another where nothing that it hands up waits.
-pub fn ready_leaves(words: &[u16], p: usize, sets: &[u16], state: State) -> u64
-    requires { ⌜ p < 65536 ⌝ }
-    requires { ⌜ masks.LeftLeaves (now words) (now sets) p (state .leaves) ⌝ }
-    ensures { λ r. ⌜ r ≡ masks.readyLeaves (now (words .entry)) (now (sets .entry)) p (state .computes) (state .visits) (state .leaves) (state .waiting) ⌝ }
+pub fn ready_leaves(words: &[u16], p: usize, by: &ByVisit, state: State) -> u64
+    requires { ⌜ (p < 65536) × (places.symbolFrom (now words) p 0 < limits.mostSymbols) ⌝ }
+    requires { ⌜ masks.FewLeaves (state .leaves) ⌝ }
+    ensures { λ r. ⌜ r ≡ masks.readyLeaves (now (words .entry)) (now (by .entry)) p (state .computes) (state .visits) (state .leaves) (state .waiting) ⌝ }
 {
     if state.leaves == 0 {
         return 0;
@@ -202,7 +232,7 @@ pub fn ready_leaves(words: &[u16], p: usize, sets: &[u16], state: State) -> u64
     if bits::rest(state.leaves) == 0 {
         return bits::put(0, b, bits::union(state.computes, state.visits) == 0);
     }
-    let up = synthesized_of(sets, access::symbol_of(words, p, 0), b + 1);
+    let up = synthesized_of(by, access::symbol_of(words, p, 0), b);
     bits::put(0, b, bits::common(up, state.waiting) == 0)
 }
 
@@ -223,13 +253,13 @@ pub fn compute(state: State, o: usize) -> Step
 }
 
 // Visit b of a child: its synthesized attributes of that visit are available then.
-pub fn visit(words: &[u16], p: usize, sets: &[u16], state: State, b: usize) -> Step
+pub fn visit(words: &[u16], p: usize, by: &ByVisit, state: State, b: usize) -> Step
     requires { ⌜ (p < 65536) × (b < 64) ⌝ }
-    requires { ⌜ b % 8 < visiting.visits (now sets) (places.symbolFrom (now words) p (b / 8)) ⌝ }
-    ensures { λ s. ⌜ spec.Done (s .action) (s .state .computes) (s .state .visits) (s .state .leaves) (s .state .waiting) (64 + b) (state .computes) (bit.remove b (state .visits)) (state .leaves) (bit.minus (state .waiting) (masks.handedUp (now (words .entry)) (now (sets .entry)) p b)) ⌝ }
+    requires { ⌜ places.symbolFrom (now words) p (b / 8) < limits.mostSymbols ⌝ }
+    ensures { λ s. ⌜ spec.Done (s .action) (s .state .computes) (s .state .visits) (s .state .leaves) (s .state .waiting) (64 + b) (state .computes) (bit.remove b (state .visits)) (state .leaves) (bit.minus (state .waiting) (masks.handedUp (now (words .entry)) (now (by .entry)) p b)) ⌝ }
 {
     let i = b / 8;
-    let up = synthesized_of(sets, access::symbol_of(words, p, i), b % 8 + 1);
+    let up = synthesized_of(by, access::symbol_of(words, p, i), b % 8);
     Step {
         action: 64 + b,
         state: State {
@@ -242,12 +272,12 @@ pub fn visit(words: &[u16], p: usize, sets: &[u16], state: State, b: usize) -> S
 }
 
 // Leave b to the parent: the left side's inherited attributes of the next visit are available then.
-pub fn leave(words: &[u16], p: usize, sets: &[u16], state: State, b: usize) -> Step
-    requires { ⌜ (p < 65536) × (b < 64) ⌝ }
-    requires { ⌜ b < visiting.visits (now sets) (places.symbolFrom (now words) p 0) ⌝ }
-    ensures { λ s. ⌜ spec.Done (s .action) (s .state .computes) (s .state .visits) (s .state .leaves) (s .state .waiting) (128 + b) (state .computes) (state .visits) (bit.remove b (state .leaves)) (bit.minus (state .waiting) (masks.handedDown (now (words .entry)) (now (sets .entry)) p b)) ⌝ }
+pub fn leave(words: &[u16], p: usize, by: &ByVisit, state: State, b: usize) -> Step
+    requires { ⌜ (p < 65536) × (b < 7) ⌝ }
+    requires { ⌜ places.symbolFrom (now words) p 0 < limits.mostSymbols ⌝ }
+    ensures { λ s. ⌜ spec.Done (s .action) (s .state .computes) (s .state .visits) (s .state .leaves) (s .state .waiting) (128 + b) (state .computes) (state .visits) (bit.remove b (state .leaves)) (bit.minus (state .waiting) (masks.handedDown (now (words .entry)) (now (by .entry)) p b)) ⌝ }
 {
-    let down = inherited_of(sets, access::symbol_of(words, p, 0), b + 2);
+    let down = inherited_of(by, access::symbol_of(words, p, 0), b + 1);
     Step {
         action: 128 + b,
         state: State {

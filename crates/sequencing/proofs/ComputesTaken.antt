@@ -27,7 +27,7 @@ use Rattle.sequencing.proofs.OrderSteps.{taken}
 use Rattle.remaining.proofs.RemainsLaws.{remains-compute, less-compute}
 use Rattle.sequencing.proofs.GivenLaws.{left-compute, ActionReady, orderly-rule, five-visits, row-path, waiting-fits}
 
-module _ (g s rows : List ℕ) (p r : ℕ) (given : RuleGiven g s rows p r) where
+module _ (g s by rows : List ℕ) (p r : ℕ) (given : RuleGiven g s by rows p r) where
   module _ (c v l w : ℕ) (going : Going g (idsOf g) s r (remains c v l) w) where
     computed : (o : ℕ) → o < 64 → T (hasb o c) → T (defining g r o)
     computed o h t =
@@ -41,17 +41,17 @@ module _ (g s rows : List ℕ) (p r : ℕ) (given : RuleGiven g s rows p r) wher
           (not-T (hasb o blocked)
           (λ u.
           let k = rule .by o u in
-          free-quiet g (idsOf g) s r (orderly-rule g s rows p r given) (five-visits g s rows p r given) (remains c v l) w going o
+          free-quiet g (idsOf g) s r (orderly-rule g s by rows p r given) (five-visits g s by rows p r given) (remains c v l) w going o
           (computed o h t) f (k .0) (k .1)
-          (subst (λ (x : Bool). T x) (row-path g s rows p r given (k .0) o (waiting-fits g s rows p r given c v l w going (k .0) (k .1)) h) (k .2))))
+          (subst (λ (x : Bool). T x) (row-path g s by rows p r given (k .0) o (waiting-fits g s by rows p r given c v l w going (k .0) (k .1)) h) (k .2))))
 
       ready-compute : (o : ℕ) → o < 64 → T (hasb o (minus c blocked)) → ActionReady g s r c v l o
       ready-compute o h t =
           let u = minus-both o c blocked t in
-          quiet-free g (idsOf g) s r (orderly-rule g s rows p r given) (five-visits g s rows p r given) (remains c v l) w going o (computed o h (u .0)) h
+          quiet-free g (idsOf g) s r (orderly-rule g s by rows p r given) (five-visits g s by rows p r given) (remains c v l) w going o (computed o h (u .0)) h
           (λ x k q.
           T-not (hasb o blocked) (u .1)
-          (rule .all o x k (subst⁻¹ (λ (b : Bool). T b) (row-path g s rows p r given x o (waiting-fits g s rows p r given c v l w going x k) h) q)))
+          (rule .all o x k (subst⁻¹ (λ (b : Bool). T b) (row-path g s by rows p r given x o (waiting-fits g s by rows p r given c v l w going x k) h) q)))
 
       -- the lowest of them is next
       pub take-compute : (o : ℕ) → First (minus c blocked) o

@@ -41,13 +41,13 @@ use Rattle.sequences.proofs.OrderlyRules.{setAt, left-nonterminal}
 use Rattle.sequencing.specs.Given.{RuleGiven}
 use Rattle.remaining.specs.Remaining.{remains}
 use Rattle.sequencing.specs.Going.{Going}
-use Rattle.remaining.specs.RuleSets.{setMask, synthesizedMask, leaveFree, others, leaveReady}
+use Rattle.remaining.specs.RuleSets.{synthesizedMask, leaveFree, others, leaveReady}
 use Rattle.remaining.proofs.MemberWalks.{was-left}
 use Rattle.sequencing.proofs.Makers.{visit-even}
 use Rattle.sequencing.proofs.ReadyLeaves.{later-leaves, LeaveReady}
 use Rattle.remaining.proofs.RemainsLaws.{remains-compute, remains-visit, remains-leave, Kind, aCompute, aVisit, aLeave, kind-of}
-use Rattle.remaining.proofs.MaskLaws.{in-set, set-in}
-use Rattle.sequencing.proofs.GivenLaws.{left-leave, five-visits, orderly-rule, set-from, visits-from, left-compute, left-visit}
+use Rattle.remaining.proofs.MaskLaws.{in-synthesized, synthesized-in}
+use Rattle.sequencing.proofs.GivenLaws.{left-leave, five-visits, orderly-rule, seen-at, set-from, visits-from, left-compute, left-visit}
 
 -- what is left besides the leaves
 in-others : (c v k : ℕ) → k < 64 → T (hasb k c or hasb k v) → T (hasb k (others c v))
@@ -60,7 +60,7 @@ from-others c v k t =
     let h : k < 64 = hasb-below 64 k (others c v) (collect-lt 64 _) t in
     (h, or-cases _ _ (subst (λ (x : Bool). T x) (hasb-collect 64 k _ h) t))
 
-module _ (g s rows : List ℕ) (p r : ℕ) (given : RuleGiven g s rows p r) where
+module _ (g s by rows : List ℕ) (p r : ℕ) (given : RuleGiven g s by rows p r) where
   module _ (c v l w : ℕ) (going : Going g (idsOf g) s r (remains c v l) w) where
     -- leave b is leave b + 1 of the left side
     pub leave-is : (b : ℕ) → T (hasb b l) → decode (128 + b) ≡ leave (b + 1)
@@ -77,12 +77,15 @@ module _ (g s rows : List ℕ) (p r : ℕ) (given : RuleGiven g s rows p r) wher
     abbrev NextLeave : ℕ → Type 0
     NextLeave n = LeaveReady g (idsOf g) s r (remains c v l) w n
 
-    pub leave-small : (b : ℕ) → T (hasb b l) → b < 64
-    leave-small b t = omega (arith, left-side b t .last, five-visits g s rows p r given (symbolOf g r 0))
+    pub leave-few : (b : ℕ) → T (hasb b l) → b < 7
+    leave-few b t = omega (arith, left-side b t .last, five-visits g s by rows p r given (symbolOf g r 0))
+
+    pub leave-inside : (b : ℕ) → T (hasb b l) → b < visits s (symbolFrom g p 0)
+    leave-inside b t = omega (arith, left-side b t .last, visits-from g s by rows p r given 0)
 
     -- the test of a leave says that it is ready
-    pub ready-next : (b : ℕ) → T (hasb b l) → T (leaveReady g s p c v l w b) → NextLeave (b + 1)
-    unfolding leaveReady leaveFree synthesizedMask
+    pub ready-next : (b : ℕ) → T (hasb b l) → T (leaveReady g by p c v l w b) → NextLeave (b + 1)
+    unfolding leaveReady leaveFree
     ready-next b t u =
         record {
           next = λ m k q y.
@@ -121,9 +124,9 @@ module _ (g s rows : List ℕ) (p r : ℕ) (given : RuleGiven g s rows p r) wher
             (subst (λ (x : ℕ). T (hasb o x))
             (eqb→eq _ _ (subst (λ (x : Bool). T x) (passed-over (eqb (remove b l) 0) _ _ i) (and-right _ _ u)))
             (both-common o _ w
-            (set-in s (symbolFrom g p 0) (2 * (visits s (symbolFrom g p 0) + 1 - (b + 1)) - 1) o (omega arith)
+            (synthesized-in s by (symbolFrom g p 0) b (seen-at g s by rows p r given 0 (omega arith)) (omega (arith, leave-few b t)) (leave-inside b t) o (omega arith)
             (ap (λ (x : ℕ). setNumber s (symbolFrom g p 0) x) (sym z)
-            ∙ (set-from g s rows p r given 0 o q ∙ (k ∙ ap (λ (x : ℕ). 2 * (x + 1 - (b + 1)) - 1) (sym (visits-from g s rows p r given 0)))))) y))
+            ∙ (set-from g s by rows p r given 0 o q ∙ (k ∙ ap (λ (x : ℕ). 2 * (x + 1 - (b + 1)) - 1) (sym (visits-from g s by rows p r given 0)))))) y))
 
         -- the leave itself, which alone is left, makes nothing that it hands up
         unmade : (o : ℕ) → setAt g s r o ≡ 2 * (visits s (symbolOf g r 0) + 1 - (b + 1)) - 1 → remove b l ≡ 0
@@ -151,8 +154,8 @@ module _ (g s rows : List ℕ) (p r : ℕ) (given : RuleGiven g s rows p r) wher
                 omega (
                   arith,
                   left-side b t .last,
-                  visit-even g (idsOf g) s r (orderly-rule g s rows p r given) 0 (suc (b + 1)) o
-                      (left-nonterminal g (idsOf g) s r (orderly-rule g s rows p r given)) m,
+                  visit-even g (idsOf g) s r (orderly-rule g s by rows p r given) 0 (suc (b + 1)) o
+                      (left-nonterminal g (idsOf g) s r (orderly-rule g s by rows p r given)) m,
                 ))
                 (λ z.
                 T-not (hasb d 0) (none-left d)
@@ -171,8 +174,8 @@ module _ (g s rows : List ℕ) (p r : ℕ) (given : RuleGiven g s rows p r) wher
         alone q a y (aLeave d e) =
             omega (arith, only d q (subst (λ (x : Bool). T x) (remains-leave c v l d) (subst (λ (x : ℕ). T (remains c v l x)) e y)))
 
-    pub next-ready : (b : ℕ) → T (hasb b l) → NextLeave (b + 1) → T (leaveReady g s p c v l w b)
-    unfolding leaveReady leaveFree synthesizedMask
+    pub next-ready : (b : ℕ) → T (hasb b l) → NextLeave (b + 1) → T (leaveReady g by p c v l w b)
+    unfolding leaveReady leaveFree
     next-ready b t n =
         and-intro _ _ (⊎-elim (λ q. absurd (lower q)) (λ q. le→leb _ _ q) (below-or-not (lowest 64 l) b))
         (⊎-elim
@@ -181,25 +184,25 @@ module _ (g s rows : List ℕ) (p r : ℕ) (given : RuleGiven g s rows p r) wher
         (eq-T _ _ (no-member (others c v) (λ k y. let i = from-others c v k y in alone (eqb→eq _ _ q) k (i .0) (i .1)))))
         (λ q.
         subst⁻¹ (λ (x : Bool). T x) (passed-over (eqb (remove b l) 0) _ _ q)
-        (eq-T _ _ (no-member (common (setMask s (symbolFrom g p 0) _) w) handed)))
+        (eq-T _ _ (no-member (common (synthesizedMask by (symbolFrom g p 0) b) w) handed)))
         (tested (eqb (remove b l) 0)))
       where
         lower : lowest 64 l < b → ⊥
         lower q =
-            let h : lowest 64 l < 64 = omega (arith, leave-small b t) in
+            let h : lowest 64 l < 64 = omega (arith, leave-few b t) in
             let e : 128 + lowest 64 l ≡ 128 + (lowest 64 l + 1 - 1) = omega arith in
             n .next (lowest 64 l + 1) (omega arith) (omega arith)
             (subst (λ (a : ℕ). T (remains c v l a)) e (left-leave c v l (lowest 64 l) (true-T _ (bit-has _ l (lowest-is 64 l .member h)))))
 
-        handed : (o : ℕ) → T (hasb o (common (setMask s (symbolFrom g p 0) (2 * (visits s (symbolFrom g p 0) + 1 - (b + 1)) - 1)) w)) → ⊥
+        handed : (o : ℕ) → T (hasb o (common (synthesizedMask by (symbolFrom g p 0) b) w)) → ⊥
         handed o y =
             let k = common-both o _ w y in
-            let i = in-set s (symbolFrom g p 0) _ o (k .0) in
+            let i = in-synthesized s by (symbolFrom g p 0) b (seen-at g s by rows p r given 0 (omega arith)) (omega (arith, leave-few b t)) (leave-inside b t) o (k .0) in
             let q : position o ≡ 0 = omega (arith, i .0) in
             let z : o % 8 ≡ o = omega (arith, i .0) in
             n .handed o (k .1) q
-            (sym (set-from g s rows p r given 0 o q)
-            ∙ (ap (λ (x : ℕ). setNumber s (symbolFrom g p 0) x) z ∙ (i .1 ∙ ap (λ (x : ℕ). 2 * (x + 1 - (b + 1)) - 1) (visits-from g s rows p r given 0))))
+            (sym (set-from g s by rows p r given 0 o q)
+            ∙ (ap (λ (x : ℕ). setNumber s (symbolFrom g p 0) x) z ∙ (i .1 ∙ ap (λ (x : ℕ). 2 * (x + 1 - (b + 1)) - 1) (visits-from g s by rows p r given 0))))
 
         whole : remove b l ≡ 0 → b + 1 ≡ visits s (symbolOf g r 0)
         whole q =
@@ -212,7 +215,7 @@ module _ (g s rows : List ℕ) (p r : ℕ) (given : RuleGiven g s rows p r) wher
             (subst⁻¹ (λ (x : Bool). T x) (has-other b (b + 1) l (λ y. omega arith))
             (subst (λ (x : Bool). T x) (remains-leave c v l (b + 1))
             (subst (λ (a : ℕ). T (remains c v l a)) f
-            (later-leaves g (idsOf g) s r (orderly-rule g s rows p r given) (five-visits g s rows p r given) (remains c v l) w going (b + 1)
+            (later-leaves g (idsOf g) s r (orderly-rule g s by rows p r given) (five-visits g s by rows p r given) (remains c v l) w going (b + 1)
             (b + 2) (omega arith) (omega arith)
             (record { first = omega arith; last = omega arith }) (subst (λ (a : ℕ). T (remains c v l a)) e (left-leave c v l b t)))))))))
             (λ k. omega (arith, left-side b t .last)) (below-or-not (b + 1) (visits s (symbolOf g r 0)))

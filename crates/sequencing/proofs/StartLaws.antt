@@ -1,22 +1,21 @@
 -- Before the first action all of the rule's actions are left, every occurrence waits that some action makes available, and the three sets have as
 -- many members as the rule has actions. Assumes nothing.
-use Prim.Native.Nat.{ℕ, zero, suc, _+_, _*_, _-_, _/_, _%_, _<_}
+use Prim.Native.Nat.{ℕ, zero, suc, _+_, _*_, _-_, _/_, _%_, _≤_, _<_}
 use mathlib.Core.Path.{_≡_, refl, sym, _∙_, ap, ap₂, subst, subst⁻¹}
 use mathlib.Core.Logic.{⊎-elim}
 use mathlib.Core.Bool.{Bool, true, false, cond, not}
 use mathlib.Core.List.{List}
 use native.Mathlib.Omega.{arith}
 use native.Mathlib.Nat.{add-suc, add-zero}
-use lib.Dec.{T, ltb, ltb→lt, lt→ltb, leb→le, le→leb, T-not, not-T}
+use lib.Dec.{T, ltb, lt→ltb, leb→le, le→leb, T-not, not-T}
 use lib.ListN.{length}
-use lib.Pow.{ones-lt}
-use Rattle.bits.specs.Bit.{number, hasb, collect, below}
+use Rattle.bits.specs.Bit.{number, hasb, collect}
 use Rattle.bits.specs.Bit as bits
-use Rattle.bits.proofs.BitLaws.{bit-below, bit-has, number-hasb}
+use Rattle.bits.proofs.BitLaws.{number-hasb}
 use Rattle.bits.proofs.CollectLaws.{collect-lt}
 use Rattle.bits.proofs.MemberLaws.{hasb-collect, hasb-below, minus-both, both-minus}
 use Rattle.basics.specs.Tests.{count}
-use Rattle.basics.proofs.TestLaws.{and-intro, and-left, and-right, true-T, same-test}
+use Rattle.basics.proofs.TestLaws.{and-intro, and-left, and-right, same-test}
 use Rattle.basics.proofs.CountingLaws.{count-gap}
 use Rattle.grammar.specs.Table.{rightLength, lengthAt, symbolOf, nonterminal, attributes, occurrence, defining, position, attribute}
 use Rattle.relations.specs.Computed.{idsOf}
@@ -35,12 +34,13 @@ use Rattle.sequences.proofs.AvailableFirst.{maker}
 use Rattle.sequencing.specs.Given.{RuleGiven}
 use Rattle.remaining.specs.Remaining.{remains, remaining}
 use Rattle.sequencing.specs.Going.{Going}
-use Rattle.remaining.specs.RuleSets.{inheritedMask, visitFrom, madeFrom, Started}
+use Rattle.remaining.specs.RuleSets.{inheritedMask, visitsIn, visitFrom, madeFrom, Started}
 use Rattle.sequencing.proofs.Makers.{Attribute, made-attribute, visit-even, first-unmade}
 use Rattle.sequencing.proofs.OrderSteps.{passing-same}
 use Rattle.remaining.proofs.RemainsLaws.{remains-compute, remains-visit, remains-leave, Kind, aCompute, aVisit, aLeave, kind-of}
-use Rattle.remaining.proofs.MaskLaws.{in-set, set-in}
-use Rattle.sequencing.proofs.GivenLaws.{orderly-rule, five-visits, symbol-is, set-from, visits-from}
+use Rattle.remaining.proofs.MaskLaws.{in-inherited, inherited-in}
+use Rattle.remaining.proofs.BlockSetLaws.{in-visits, visits-has}
+use Rattle.sequencing.proofs.GivenLaws.{orderly-rule, five-visits, seen-at, length-is, visits-in, symbol-is, set-from, visits-from}
 
 -- how many pass in two stretches
 count-add : (a b : ℕ) (f : ℕ → Bool) → count (a + b) f ≡ count a f + count b (λ i. f (a + i))
@@ -60,10 +60,16 @@ count-members (suc w) s f e =
     one true = refl
     one false = refl
 
-module _ (g s rows : List ℕ) (p r : ℕ) (given : RuleGiven g s rows p r) (c v l w : ℕ) (started : Started g s p c v l w) where
-  length-is : lengthAt g p ≡ rightLength g r
-  unfolding rightLength
-  length-is = ap (lengthAt g) (given .starts)
+module _ (g s by rows : List ℕ) (p r : ℕ) (given : RuleGiven g s by rows p r) (c v l w : ℕ) (started : Started g by p c v l w) where
+  -- the visits of a symbol of the rule, in the table
+  from-visits : (i n : ℕ) → i ≤ rightLength g r → T (hasb n (visitsIn by (symbolFrom g p i)))
+      → T (nonterminal g (symbolFrom g p i)) × (n < visits s (symbolFrom g p i))
+  from-visits i n h t = in-visits g (symbolFrom g p i) (visits s (symbolFrom g p i)) n (subst (λ (x : ℕ). T (hasb n x)) (visits-in g s by rows p r given i h) t)
+
+  visits-from-there : (i n : ℕ) → i ≤ rightLength g r → T (nonterminal g (symbolFrom g p i)) → n < visits s (symbolFrom g p i)
+      → T (hasb n (visitsIn by (symbolFrom g p i)))
+  visits-from-there i n h t l =
+      subst⁻¹ (λ (x : ℕ). T (hasb n x)) (visits-in g s by rows p r given i h) (visits-has g (symbolFrom g p i) (visits s (symbolFrom g p i)) n t l)
 
   -- the computes are the defining occurrences
   compute-left : (o : ℕ) → o < 64 → remains c v l o ≡ defining g r o
@@ -72,47 +78,49 @@ module _ (g s rows : List ℕ) (p r : ℕ) (given : RuleGiven g s rows p r) (c v
       ∙ (ap (λ (x : ℕ). hasb o x) (started .computesAre ∙ definings-at-rule g r p (given .starts)) ∙ hasb-collect 64 o _ h)
 
   -- the visits those of the nonterminal children
-  visit-left : (b : ℕ) → b < 64 → remains c v l (64 + b) ≡ visitFrom g s p b
+  visit-left : (b : ℕ) → b < 64 → remains c v l (64 + b) ≡ visitFrom g by p b
   visit-left b h =
       remains-visit c v l b h ∙ (ap (λ (x : ℕ). hasb b x) (started .visitsAre) ∙ hasb-collect 64 b _ h)
 
-  from-visit : (b : ℕ) → T (visitFrom g s p b) → ChildVisit g s r (b / 8) (b % 8 + 1)
+  from-visit : (b : ℕ) → T (visitFrom g by p b) → ChildVisit g s r (b / 8) (b % 8 + 1)
   unfolding visitFrom
   from-visit b t =
       let u = and-left _ _ t in
-      let x = and-right _ _ t in
+      let i : b / 8 ≤ rightLength g r = omega (arith, leb→le (b / 8) (lengthAt g p) (and-right _ _ u), length-is g s by rows p r given) in
+      let x = from-visits (b / 8) (b % 8) i (and-right _ _ t) in
       record {
         child = leb→le 1 (b / 8) (and-left _ _ u);
-        inside = omega (arith, leb→le (b / 8) (lengthAt g p) (and-right _ _ u), length-is);
-        nonterminalThere = subst (λ (y : ℕ). T (nonterminal g y)) (symbol-is g s rows p r given (b / 8)) (and-left _ _ x);
+        inside = i;
+        nonterminalThere = subst (λ (y : ℕ). T (nonterminal g y)) (symbol-is g s by rows p r given (b / 8)) (x .0);
         first = omega arith;
-        last =
-            omega (arith, ltb→lt (b % 8) (visits s (symbolFrom g p (b / 8))) (and-right _ _ x), visits-from g s rows p r given (b / 8));
+        last = omega (arith, x .1, visits-from g s by rows p r given (b / 8));
       }
 
-  visit-from : (b : ℕ) → ChildVisit g s r (b / 8) (b % 8 + 1) → T (visitFrom g s p b)
+  visit-from : (b : ℕ) → ChildVisit g s r (b / 8) (b % 8 + 1) → T (visitFrom g by p b)
   unfolding visitFrom
   visit-from b k =
       and-intro _ _
-      (and-intro _ _ (le→leb 1 (b / 8) (k .child)) (le→leb (b / 8) (lengthAt g p) (omega (arith, k .inside, length-is))))
-      (and-intro _ _ (subst⁻¹ (λ (y : ℕ). T (nonterminal g y)) (symbol-is g s rows p r given (b / 8)) (k .nonterminalThere))
-      (lt→ltb (b % 8) (visits s (symbolFrom g p (b / 8))) (omega (arith, k .last, visits-from g s rows p r given (b / 8)))))
+      (and-intro _ _ (le→leb 1 (b / 8) (k .child)) (le→leb (b / 8) (lengthAt g p) (omega (arith, k .inside, length-is g s by rows p r given))))
+      (visits-from-there (b / 8) (b % 8) (k .inside)
+      (subst⁻¹ (λ (y : ℕ). T (nonterminal g y)) (symbol-is g s by rows p r given (b / 8)) (k .nonterminalThere))
+      (omega (arith, k .last, visits-from g s by rows p r given (b / 8))))
 
   -- the leaves those of the left side
   leave-left : (b : ℕ) → T (remains c v l (128 + b)) → b < visits s (symbolOf g r 0)
   leave-left b t =
       omega (
         arith,
-        visits-from g s rows p r given 0,
-        hasb-below (visits s (symbolFrom g p 0)) b (below (visits s (symbolFrom g p 0))) (ones-lt (visits s (symbolFrom g p 0)))
-            (subst (λ (x : ℕ). T (hasb b x)) (started .leavesAre) (subst (λ (x : Bool). T x) (remains-leave c v l b) t)),
+        visits-from g s by rows p r given 0,
+        from-visits 0 b (omega arith) (subst (λ (x : ℕ). T (hasb b x)) (started .leavesAre) (subst (λ (x : Bool). T x) (remains-leave c v l b) t)) .1,
       )
 
   left-leave : (b : ℕ) → b < visits s (symbolOf g r 0) → T (remains c v l (128 + b))
   left-leave b h =
       subst⁻¹ (λ (x : Bool). T x) (remains-leave c v l b)
       (subst⁻¹ (λ (x : ℕ). T (hasb b x)) (started .leavesAre)
-      (true-T _ (bit-has b _ (bit-below (visits s (symbolFrom g p 0)) b (omega (arith, visits-from g s rows p r given 0))))))
+      (visits-from-there 0 b (omega arith)
+      (subst⁻¹ (λ (y : ℕ). T (nonterminal g y)) (symbol-is g s by rows p r given 0) (left-nonterminal g (idsOf g) s r (orderly-rule g s by rows p r given)))
+      (omega (arith, visits-from g s by rows p r given 0))))
 
   -- what is left are the actions of the rule, all of them
   left-action : (a : ℕ) → T (remains c v l a) → T (isAction g s r a)
@@ -120,17 +128,17 @@ module _ (g s rows : List ℕ) (p r : ℕ) (given : RuleGiven g s rows p r) (c v
     where
       go : Kind a → T (isAction g s r a)
       go (aCompute h) =
-          compute-stands g (idsOf g) s r (orderly-rule g s rows p r given) a (subst (λ (x : Bool). T x) (compute-left a h) t)
+          compute-stands g (idsOf g) s r (orderly-rule g s by rows p r given) a (subst (λ (x : Bool). T x) (compute-left a h) t)
       go (aVisit b h e) =
           let f : a ≡ 64 + 8 * (b / 8) + (b % 8 + 1 - 1) = omega arith in
           subst⁻¹ (λ (x : ℕ). T (isAction g s r x)) f
-          (visit-stands g (idsOf g) s r (orderly-rule g s rows p r given) (five-visits g s rows p r given) (b / 8) (b % 8 + 1)
+          (visit-stands g (idsOf g) s r (orderly-rule g s by rows p r given) (five-visits g s by rows p r given) (b / 8) (b % 8 + 1)
           (from-visit b (subst (λ (x : Bool). T x) (visit-left b h) (subst (λ (x : ℕ). T (remains c v l x)) e t))))
       go (aLeave b e) =
           let f : a ≡ 128 + (b + 1 - 1) = omega arith in
           let k : b < visits s (symbolOf g r 0) = leave-left b (subst (λ (x : ℕ). T (remains c v l x)) e t) in
           subst⁻¹ (λ (x : ℕ). T (isAction g s r x)) f
-          (leave-stands g (idsOf g) s r (orderly-rule g s rows p r given) (five-visits g s rows p r given) (b + 1)
+          (leave-stands g (idsOf g) s r (orderly-rule g s by rows p r given) (five-visits g s by rows p r given) (b + 1)
           (record { first = omega arith; last = omega arith }))
 
   action-left : (a : ℕ) → T (isAction g s r a) → T (remains c v l a)
@@ -163,42 +171,40 @@ module _ (g s rows : List ℕ) (p r : ℕ) (given : RuleGiven g s rows p r) (c v
       let x = and-right _ _ t in
       record {
         occurs =
-            and-intro _ _ (le→leb (position o) (rightLength g r) (omega (arith, leb→le (position o) (lengthAt g p) (and-left _ _ t), length-is)))
-            (subst (λ (y : ℕ). T (ltb (attribute o) (attributes g y))) (symbol-is g s rows p r given (position o)) (and-right _ _ x));
-        there = subst (λ (y : ℕ). T (nonterminal g y)) (symbol-is g s rows p r given (position o)) (and-left _ _ x);
+            and-intro _ _ (le→leb (position o) (rightLength g r) (omega (arith, leb→le (position o) (lengthAt g p) (and-left _ _ t), length-is g s by rows p r given)))
+            (subst (λ (y : ℕ). T (ltb (attribute o) (attributes g y))) (symbol-is g s by rows p r given (position o)) (and-right _ _ x));
+        there = subst (λ (y : ℕ). T (nonterminal g y)) (symbol-is g s by rows p r given (position o)) (and-left _ _ x);
       }
 
   made-from : (o : ℕ) → Attribute g r o → T (madeFrom g p o)
   unfolding madeFrom
   made-from o k =
-      and-intro _ _ (le→leb (position o) (lengthAt g p) (omega (arith, occurs-inside g r o (k .occurs), length-is)))
-      (and-intro _ _ (subst⁻¹ (λ (y : ℕ). T (nonterminal g y)) (symbol-is g s rows p r given (position o)) (k .there))
-      (subst⁻¹ (λ (y : ℕ). T (ltb (attribute o) (attributes g y))) (symbol-is g s rows p r given (position o))
+      and-intro _ _ (le→leb (position o) (lengthAt g p) (omega (arith, occurs-inside g r o (k .occurs), length-is g s by rows p r given)))
+      (and-intro _ _ (subst⁻¹ (λ (y : ℕ). T (nonterminal g y)) (symbol-is g s by rows p r given (position o)) (k .there))
+      (subst⁻¹ (λ (y : ℕ). T (ltb (attribute o) (attributes g y))) (symbol-is g s by rows p r given (position o))
       (lt→ltb _ _ (occurs-attribute g r o (k .occurs)))))
 
   -- the left side's inherited ones of visit 1
-  from-first : (o : ℕ) → T (hasb o (inheritedMask s (symbolFrom g p 0) 1))
+  from-first : (o : ℕ) → T (hasb o (inheritedMask by (symbolFrom g p 0) 0))
       → (position o ≡ 0) × (setAt g s r o ≡ 2 * visits s (symbolOf g r 0))
-  unfolding inheritedMask
   from-first o t =
-      let k = in-set s (symbolFrom g p 0) (2 * (visits s (symbolFrom g p 0) + 1 - 1)) o t in
+      let k = in-inherited s by (symbolFrom g p 0) 0 (seen-at g s by rows p r given 0 (omega arith)) (omega arith) (omega arith) o t in
       let q : position o ≡ 0 = omega (arith, k .0) in
       let z : o % 8 ≡ o = omega (arith, k .0) in (
         q,
-        sym (set-from g s rows p r given 0 o q)
-            ∙ (ap (λ (x : ℕ). setNumber s (symbolFrom g p 0) x) z ∙ (k .1 ∙ omega (arith, visits-from g s rows p r given 0))),
+        sym (set-from g s by rows p r given 0 o q)
+            ∙ (ap (λ (x : ℕ). setNumber s (symbolFrom g p 0) x) z ∙ (k .1 ∙ omega (arith, visits-from g s by rows p r given 0))),
       )
 
-  first-from : (o : ℕ) → T (inheritedOf g s r 0 1 o) → T (hasb o (inheritedMask s (symbolFrom g p 0) 1))
-  unfolding inheritedMask
+  first-from : (o : ℕ) → T (inheritedOf g s r 0 1 o) → T (hasb o (inheritedMask by (symbolFrom g p 0) 0))
   first-from o t =
       let q : position o ≡ 0 = inherited-of g s r 0 1 o t .0 .stands in
       let z : o % 8 ≡ o = omega arith in
-      set-in s (symbolFrom g p 0) (2 * (visits s (symbolFrom g p 0) + 1 - 1)) o (omega arith)
+      inherited-in s by (symbolFrom g p 0) 0 (seen-at g s by rows p r given 0 (omega arith)) (omega arith) (omega arith) o (omega arith)
       (ap (λ (x : ℕ). setNumber s (symbolFrom g p 0) x) (sym z)
-      ∙ (set-from g s rows p r given 0 o q
-      ∙ (visit-even g (idsOf g) s r (orderly-rule g s rows p r given) 0 1 o (left-nonterminal g (idsOf g) s r (orderly-rule g s rows p r given)) t
-      ∙ ap (λ (x : ℕ). 2 * (x + 1 - 1)) (sym (visits-from g s rows p r given 0)))))
+      ∙ (set-from g s by rows p r given 0 o q
+      ∙ (visit-even g (idsOf g) s r (orderly-rule g s by rows p r given) 0 1 o (left-nonterminal g (idsOf g) s r (orderly-rule g s by rows p r given)) t
+      ∙ ap (λ (x : ℕ). 2 * (x + 1 - (0 + 1))) (sym (visits-from g s by rows p r given 0)))))
 
   pub starts-going : Going g (idsOf g) s r (remains c v l) w
   starts-going =
@@ -207,25 +213,25 @@ module _ (g s rows : List ℕ) (p r : ℕ) (given : RuleGiven g s rows p r) (c v
         done = λ a b i t f. action-left a i;
         waits = λ o t. made o (minus-both o _ _ (subst (λ (x : ℕ). T (hasb o x)) (started .waitingAre) t));
         makers = λ e o t m.
-            let a : Attribute g r o = made-attribute g (idsOf g) s r (orderly-rule g s rows p r given) e o (left-action e t) m in
+            let a : Attribute g r o = made-attribute g (idsOf g) s r (orderly-rule g s by rows p r given) e o (left-action e t) m in
             subst⁻¹ (λ (x : ℕ). T (hasb o x)) (started .waitingAre)
             (both-minus o _ _
             (subst⁻¹ (λ (x : Bool). T x)
-            (hasb-collect 64 o (λ o. madeFrom g p o) (fits g (idsOf g) s r (orderly-rule g s rows p r given) o (a .occurs))) (made-from o a))
-            (not-T (hasb o (inheritedMask s (symbolFrom g p 0) 1))
+            (hasb-collect 64 o (λ o. madeFrom g p o) (fits g (idsOf g) s r (orderly-rule g s by rows p r given) o (a .occurs))) (made-from o a))
+            (not-T (hasb o (inheritedMask by (symbolFrom g p 0) 0))
             (λ u.
             let k = from-first o u in
-            first-unmade g (idsOf g) s r (orderly-rule g s rows p r given) e o (left-action e t) m (k .0) (k .1))));
+            first-unmade g (idsOf g) s r (orderly-rule g s by rows p r given) e o (left-action e t) m (k .0) (k .1))));
       }
     where
-      made : (o : ℕ) → T (hasb o (collect 64 (λ o. madeFrom g p o))) × T (not (hasb o (inheritedMask s (symbolFrom g p 0) 1)))
+      made : (o : ℕ) → T (hasb o (collect 64 (λ o. madeFrom g p o))) × T (not (hasb o (inheritedMask by (symbolFrom g p 0) 0)))
           → (e : ℕ) × T (remains c v l e) × T (makes g s r (decode e) o)
       made o t =
           let h : o < 64 = hasb-below 64 o (collect 64 (λ o. madeFrom g p o)) (collect-lt 64 _) (t .0) in
           let a : Attribute g r o = from-made o (subst (λ (x : Bool). T x) (hasb-collect 64 o (λ o. madeFrom g p o) h) (t .0)) in
-          ⊎-elim (λ i. absurd (T-not (hasb o (inheritedMask s (symbolFrom g p 0) 1)) (t .1) (first-from o i)))
+          ⊎-elim (λ i. absurd (T-not (hasb o (inheritedMask by (symbolFrom g p 0) 0)) (t .1) (first-from o i)))
           (λ m. (m .0, action-left (m .0) (m .1), m .2))
-          (maker g (idsOf g) s r (orderly-rule g s rows p r given) (five-visits g s rows p r given) o (a .occurs) (a .there))
+          (maker g (idsOf g) s r (orderly-rule g s by rows p r given) (five-visits g s by rows p r given) o (a .occurs) (a .there))
 
   pub starts-all : remaining (remains c v l) ≡ actionsOf g s r
   unfolding remaining actionsOf

@@ -26,8 +26,8 @@ use Rattle.sequencing.proofs.ReadyComputes.{waits-attribute}
 use Rattle.sequencing.proofs.ReadyVisits.{VisitReady, free-visit, ready-visit}
 use Rattle.sequencing.proofs.OrderSteps.{taken}
 use Rattle.remaining.proofs.RemainsLaws.{remains-visit, Kind, aCompute, aVisit, aLeave, kind-of, less-visit}
-use Rattle.remaining.proofs.MaskLaws.{up-at, at-up, Passes, ready-at, at-ready}
-use Rattle.sequencing.proofs.GivenLaws.{left-visit, set-from, visits-from, ActionReady, orderly-rule, five-visits}
+use Rattle.remaining.proofs.MaskLaws.{SeenVisits, up-at, at-up, Passes, ready-at, at-ready}
+use Rattle.sequencing.proofs.GivenLaws.{left-visit, seen-at, set-from, visits-from, ActionReady, orderly-rule, five-visits}
 
 -- visit b is visit b % 8 + 1 of child b / 8
 visit-is : (b : ℕ) → b < 64 → decode (64 + b) ≡ visit (b / 8) (b % 8 + 1)
@@ -35,7 +35,7 @@ visit-is b h =
     let e : 64 + b ≡ 64 + 8 * (b / 8) + (b % 8 + 1 - 1) = omega arith in
     ap decode e ∙ decode-number (visit (b / 8) (b % 8 + 1)) (omega arith, omega arith, omega arith)
 
-module _ (g s rows : List ℕ) (p r : ℕ) (given : RuleGiven g s rows p r) where
+module _ (g s by rows : List ℕ) (p r : ℕ) (given : RuleGiven g s by rows p r) where
   module _ (c v l w : ℕ) (going : Going g (idsOf g) s r (remains c v l) w) where
     pub child : (b : ℕ) → b < 64 → T (hasb b v) → ChildVisit g s r (b / 8) (b % 8 + 1)
     child b h t =
@@ -54,7 +54,7 @@ module _ (g s rows : List ℕ) (p r : ℕ) (given : RuleGiven g s rows p r) wher
           handed = λ o t q k.
               let e : 8 * (b / 8) + o % 8 ≡ o = omega arith in
               u .handed (o % 8) (omega arith) (subst⁻¹ (λ (x : ℕ). T (hasb x w)) e t)
-              (set-from g s rows p r given (b / 8) o q ∙ (k ∙ ap (λ (x : ℕ). 2 * (x + 1 - (b % 8 + 1))) (sym (visits-from g s rows p r given (b / 8)))));
+              (set-from g s by rows p r given (b / 8) o q ∙ (k ∙ ap (λ (x : ℕ). 2 * (x + 1 - (b % 8 + 1))) (sym (visits-from g s by rows p r given (b / 8)))));
         }
 
     next-passes : (b : ℕ) → b < 64 → VisitReady g (idsOf g) s r (remains c v l) w (b / 8) (b % 8 + 1) → Passes g s p v w b
@@ -68,44 +68,50 @@ module _ (g s rows : List ℕ) (p r : ℕ) (given : RuleGiven g s rows p r) wher
               let e : (8 * (b / 8) + a) / 8 ≡ b / 8 = omega arith in
               let f : (8 * (b / 8) + a) % 8 ≡ a = omega arith in
               u .handed (8 * (b / 8) + a) t e
-              (sym (set-from g s rows p r given (b / 8) (8 * (b / 8) + a) e)
+              (sym (set-from g s by rows p r given (b / 8) (8 * (b / 8) + a) e)
               ∙ (ap (λ (x : ℕ). setNumber s (symbolFrom g p (b / 8)) x) f
-              ∙ (q ∙ ap (λ (x : ℕ). 2 * (x + 1 - (b % 8 + 1))) (visits-from g s rows p r given (b / 8)))));
+              ∙ (q ∙ ap (λ (x : ℕ). 2 * (x + 1 - (b % 8 + 1))) (visits-from g s by rows p r given (b / 8)))));
         }
 
-    module _ (down : List ℕ) (along : Along g s p v down) where
+    -- the table has the children whose visits are left
+    pub seen-visits : SeenVisits g s by p v
+    seen-visits b h t =
+        let k = child b h t in
+        (seen-at g s by rows p r given (b / 8) (k .inside), omega (arith, k .last, visits-from g s by rows p r given (b / 8)))
+
+    module _ (down : List ℕ) (along : Along g by p v down) where
       ready-is-visit : (b : ℕ) → b < 64 → T (hasb b v) → ActionReady g s r c v l (64 + b) → T (hasb b (readyVisits down v w))
       ready-is-visit b h t f =
           let e : 64 + b ≡ 64 + 8 * (b / 8) + (b % 8 + 1 - 1) = omega arith in
-          at-ready g s p down v w b along h t
+          at-ready g s by p down v w seen-visits along b h t
           (next-passes b h
-          (free-visit g (idsOf g) s r (orderly-rule g s rows p r given) (five-visits g s rows p r given) (remains c v l) w going (b / 8)
+          (free-visit g (idsOf g) s r (orderly-rule g s by rows p r given) (five-visits g s by rows p r given) (remains c v l) w going (b / 8)
           (b % 8 + 1) (child b h t)
           (subst (λ (a : ℕ). ActionReady g s r c v l a) e f)))
 
       visit-is-ready : (b : ℕ) → T (hasb b (readyVisits down v w)) → ActionReady g s r c v l (64 + b)
       visit-is-ready b t =
-          let u = ready-at g s p down v w b along t in
+          let u = ready-at g s by p down v w seen-visits along b t in
           let e : 64 + b ≡ 64 + 8 * (b / 8) + (b % 8 + 1 - 1) = omega (arith, u .0) in
           subst⁻¹ (λ (a : ℕ). ActionReady g s r c v l a) e
-          (ready-visit g (idsOf g) s r (orderly-rule g s rows p r given) (five-visits g s rows p r given) (remains c v l) w going (b / 8)
+          (ready-visit g (idsOf g) s r (orderly-rule g s by rows p r given) (five-visits g s by rows p r given) (remains c v l) w going (b / 8)
           (b % 8 + 1) (child b (u .0) (u .1))
           (passes-next b (u .0) (u .2)))
 
       -- an action below that of visit b that is ready would be a compute, or a visit below b
       pub take-visit : (b : ℕ) → ((o : ℕ) → o < 64 → T (remains c v l o) → ActionReady g s r c v l o → ⊥) → First (readyVisits down v w) b
-          → Taken g (idsOf g) s r (remains c v l) (64 + b) (remains c (remove b v) l) (minus w (handedUp g s p b))
+          → Taken g (idsOf g) s r (remains c v l) (64 + b) (remains c (remove b v) l) (minus w (handedUp g by p b))
       take-visit b none f =
           taken g (idsOf g) s r (remains c v l) w going (64 + b) (left-visit c v l b (f .small) (here .1))
           (visit-is-ready b (first-member _ b f)) (λ a k t u. lower a k t u (kind-of a))
-          (remains c (remove b v) l) (less-visit c v l b (f .small)) (minus w (handedUp g s p b))
+          (remains c (remove b v) l) (less-visit c v l b (f .small)) (minus w (handedUp g by p b))
           (λ o t.
-          let u = minus-both o w (handedUp g s p b) t in
-          (u .0, λ m. T-not (hasb o (handedUp g s p b)) (u .1) (up o m)))
-          (λ o t n. both-minus o w (handedUp g s p b) t (not-T (hasb o (handedUp g s p b)) (λ u. n (of-up o t u))))
+          let u = minus-both o w (handedUp g by p b) t in
+          (u .0, λ m. T-not (hasb o (handedUp g by p b)) (u .1) (up o m)))
+          (λ o t n. both-minus o w (handedUp g by p b) t (not-T (hasb o (handedUp g by p b)) (λ u. n (of-up o t u))))
         where
           here : (b < 64) × T (hasb b v) × Passes g s p v w b
-          here = ready-at g s p down v w b along (first-member _ b f)
+          here = ready-at g s by p down v w seen-visits along b (first-member _ b f)
 
           lower : (a : ℕ) → a < 64 + b → T (remains c v l a) → ActionReady g s r c v l a → Kind a → ⊥
           lower a k t u (aCompute h) = none a h t u
@@ -118,25 +124,25 @@ module _ (g s rows : List ℕ) (p r : ℕ) (given : RuleGiven g s rows p r) wher
           visited : ChildVisit g s r (b / 8) (b % 8 + 1)
           visited = child b (f .small) (here .1)
 
-          up : (o : ℕ) → T (makes g s r (decode (64 + b)) o) → T (hasb o (handedUp g s p b))
+          up : (o : ℕ) → T (makes g s r (decode (64 + b)) o) → T (hasb o (handedUp g by p b))
           up o m =
               let k = makes-visit g s r (b / 8) (b % 8 + 1) o (subst (λ (y : Action). T (makes g s r y o)) (visit-is b (f .small)) m) in
               let q : position o ≡ b / 8 = synthesized-of g s r (b / 8) (b % 8 + 1) o (k .1) .0 .stands in
-              at-up g s p b o q
-              (set-from g s rows p r given (b / 8) o q
-              ∙ (visit-odd g (idsOf g) s r (orderly-rule g s rows p r given) (b / 8) (b % 8 + 1) o (k .0) (k .1)
-              ∙ ap (λ (x : ℕ). 2 * (x + 1 - (b % 8 + 1)) - 1) (sym (visits-from g s rows p r given (b / 8)))))
+              at-up g s by p b (seen-visits b (f .small) (here .1) .0) (seen-visits b (f .small) (here .1) .1) o q
+              (set-from g s by rows p r given (b / 8) o q
+              ∙ (visit-odd g (idsOf g) s r (orderly-rule g s by rows p r given) (b / 8) (b % 8 + 1) o (k .0) (k .1)
+              ∙ ap (λ (x : ℕ). 2 * (x + 1 - (b % 8 + 1)) - 1) (sym (visits-from g s by rows p r given (b / 8)))))
 
-          of-up : (o : ℕ) → T (hasb o w) → T (hasb o (handedUp g s p b)) → T (makes g s r (decode (64 + b)) o)
+          of-up : (o : ℕ) → T (hasb o w) → T (hasb o (handedUp g by p b)) → T (makes g s r (decode (64 + b)) o)
           of-up o t u =
-              let k = up-at g s p b o u in
+              let k = up-at g s by p b (seen-visits b (f .small) (here .1) .0) (seen-visits b (f .small) (here .1) .1) o u in
               subst⁻¹ (λ (y : Action). T (makes g s r y o)) (visit-is b (f .small))
               (visit-makes g s r (b / 8) (b % 8 + 1) o (visited .nonterminalThere)
-              (odd-of-visit g (idsOf g) s r (orderly-rule g s rows p r given) (b / 8) (b % 8 + 1) o
-              (waits-attribute g (idsOf g) s r (orderly-rule g s rows p r given) (five-visits g s rows p r given) (remains c v l) w going o t)
+              (odd-of-visit g (idsOf g) s r (orderly-rule g s by rows p r given) (b / 8) (b % 8 + 1) o
+              (waits-attribute g (idsOf g) s r (orderly-rule g s by rows p r given) (five-visits g s by rows p r given) (remains c v l) w going o t)
               (k .0) (omega arith) (visited .last)
-              (sym (set-from g s rows p r given (b / 8) o (k .0)) ∙
-              (k .1 ∙ ap (λ (x : ℕ). 2 * (x + 1 - (b % 8 + 1)) - 1) (visits-from g s rows p r given (b / 8))))))
+              (sym (set-from g s by rows p r given (b / 8) o (k .0)) ∙
+              (k .1 ∙ ap (λ (x : ℕ). 2 * (x + 1 - (b % 8 + 1)) - 1) (visits-from g s by rows p r given (b / 8))))))
 
       pub no-visit-ready : readyVisits down v w ≡ 0 → (b : ℕ) → b < 64 → T (remains c v l (64 + b)) → ActionReady g s r c v l (64 + b) → ⊥
       no-visit-ready e b h t f =

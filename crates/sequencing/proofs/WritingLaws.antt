@@ -11,10 +11,9 @@ use lib.ListN.{length, getD, set, take, drop, replicate, length-append}
 use lib.Seq.{set-at, take-all, paste, paste-zero, paste-suc, length-paste}
 use Rattle.basics.specs.Lists.{padded}
 use Rattle.bits.specs.Bit as bits
-use Rattle.grammar.specs.Limits.{ruleWords, longestSequence, planWords}
+use Rattle.grammar.specs.Limits.{ruleWords, longestSequence}
 use Rattle.relations.specs.Computed.{idsOf}
-use Rattle.sets.specs.Computed.{setsOf}
-use Rattle.access.specs.ByPlace.{Shaped, symbolFrom}
+use Rattle.access.specs.ByPlace.{Shaped}
 use Rattle.access.proofs.Accessors.{shaped-rule}
 use Rattle.sequences.specs.Actions.{mostActions, actionsOf}
 use Rattle.sequences.specs.Follows.{follows}
@@ -24,22 +23,19 @@ use Rattle.plans.specs.Buffers.{sequenceWords}
 use Rattle.sequencing.specs.Given.{RuleGiven, withBlock}
 use Rattle.remaining.specs.Remaining.{remains, remaining}
 use Rattle.sequencing.specs.Going.{Going, Taken}
-use Rattle.remaining.specs.RuleSets.{Few, Children, Along, Started}
+use Rattle.remaining.specs.RuleSets.{Children, Along, Started}
 use Rattle.remaining.proofs.RemainsLaws.{remains-visit}
 use Rattle.sequencing.proofs.GivenLaws.{five-visits}
 use Rattle.sequencing.proofs.NextLaws.{children-left}
 use Rattle.sequencing.proofs.StartLaws.{starts-going, starts-all, starts-count}
 
-module _ (g s rows : List ℕ) (p r : ℕ) where
-  pub shaped-given : RuleGiven g s rows p r → Shaped g p
+module _ (g s by rows : List ℕ) (p r : ℕ) where
+  pub shaped-given : RuleGiven g s by rows p r → Shaped g p
   shaped-given given = shaped-rule g r p (given .starts) (given .good) (given .counts)
-
-  pub few-given : RuleGiven g s rows p r → Few g p s
-  few-given given i h = five-visits g s rows p r given (symbolFrom g p i)
 
   -- after j actions, of n
   pub record Writing (n : ℕ) (down block : List ℕ) (c v l w j : ℕ) : Type 0 where
-    pub along : Along g s p v down
+    pub along : Along g by p v down
     pub inside : j ≤ n
     pub short : n ≤ mostActions
     pub left : length (remaining (remains c v l)) + j ≡ n
@@ -51,22 +47,22 @@ module _ (g s rows : List ℕ) (p r : ℕ) where
         ≡ out ++ order (λ a b. follows g (idsOf g) s r a b) (n - j) (remaining (remains c v l))
 
   -- the visits that are left at the start are visits of children
-  pub children-start : (c v l w : ℕ) → RuleGiven g s rows p r → Started g s p c v l w → Children g s p v
-  children-start c v l w given started = children-left g s rows p r c v l w given (starts-going g s rows p r given c v l w started)
+  pub children-start : (c v l w : ℕ) → RuleGiven g s by rows p r → Started g by p c v l w → Children g p v
+  children-start c v l w given started = children-left g s by rows p r c v l w given (starts-going g s by rows p r given c v l w started)
 
-  pub writing-start : (c v l w n : ℕ) (down : List ℕ) → RuleGiven g s rows p r → Started g s p c v l w
-      → n ≡ bits.count 64 c + bits.count 64 v + bits.count 64 l → Along g s p v down → Writing n down (n ∷ replicate longestSequence 0) c v l w 0
+  pub writing-start : (c v l w n : ℕ) (down : List ℕ) → RuleGiven g s by rows p r → Started g by p c v l w
+      → n ≡ bits.count 64 c + bits.count 64 v + bits.count 64 l → Along g by p v down → Writing n down (n ∷ replicate longestSequence 0) c v l w 0
   unfolding sequenceOf
   writing-start c v l w n down given started e along =
-      let f : n ≡ length (remaining (remains c v l)) = e ∙ starts-count g s rows p r given c v l w started in
+      let f : n ≡ length (remaining (remains c v l)) = e ∙ starts-count g s by rows p r given c v l w started in
       let whole : n - 0 ≡ n = omega arith in
-      let a : remaining (remains c v l) ≡ actionsOf g s r = starts-all g s rows p r given c v l w started in
+      let a : remaining (remains c v l) ≡ actionsOf g s r = starts-all g s by rows p r given c v l w started in
       record {
         along = along;
         inside = omega arith;
-        short = omega (arith, ap length a, at-most-104 g s r (five-visits g s rows p r given));
+        short = omega (arith, ap length a, at-most-104 g s r (five-visits g s by rows p r given));
         left = omega arith;
-        going = starts-going g s rows p r given c v l w started;
+        going = starts-going g s by rows p r given c v l w started;
         out = [];
         outLength = refl;
         blockIs = refl;
@@ -79,8 +75,8 @@ module _ (g s rows : List ℕ) (p r : ℕ) where
   writing-left n down block c v l w j k h = omega (arith, k .left)
 
   -- fewer visits are left, so the table still has what they take along
-  still-along : (down : List ℕ) (c v l c′ v′ l′ : ℕ) → Along g s p v down → ((a : ℕ) → T (remains c′ v′ l′ a) → T (remains c v l a))
-      → Along g s p v′ down
+  still-along : (down : List ℕ) (c v l c′ v′ l′ : ℕ) → Along g by p v down → ((a : ℕ) → T (remains c′ v′ l′ a) → T (remains c v l a))
+      → Along g by p v′ down
   still-along down c v l c′ v′ l′ along within =
       record {
         is = λ b h t.
@@ -170,11 +166,6 @@ copying-finish entry at block plan j w h =
     ∙ (ap (λ (b : List ℕ). take at entry ++ b ++ drop (at + length block) entry) (take-all (length block) block (omega arith))
     ∙ append-assoc (take at entry) block (drop (at + length block) entry)))
 
--- the plan with the planner's own sequence
-pub sequence-written : (g s rows : List ℕ) (p r : ℕ) (plan block next : List ℕ) → RuleGiven g s rows p r
-    → block ≡ sequenceWords (sequenceOf g (idsOf g) s r) → next ≡ withBlock plan (planWords r) block
-    → next ≡ withBlock plan (planWords r) (sequenceWords (sequenceOf g (idsOf g) (setsOf g (idsOf g)) r))
-sequence-written g s rows p r plan block next given e f =
-    f
-    ∙ ap (withBlock plan (planWords r))
-    (e ∙ ap (λ (x : List ℕ). sequenceWords (sequenceOf g (idsOf g) x r)) (given .sets))
+-- the block that is written is the sequence
+pub sequence-written : (plan block sequence next : List ℕ) (at : ℕ) → block ≡ sequence → next ≡ withBlock plan at block → next ≡ withBlock plan at sequence
+sequence-written plan block sequence next at e f = f ∙ ap (withBlock plan at) e

@@ -15,18 +15,24 @@ use Rattle.sets.specs.Computed.{setsOf}
 use Rattle.sets.specs.Visits.{setNumber}
 use Rattle.order.specs.Paper.{CircularIDP, Ordered}
 use Rattle.plans.specs.Answer.{edpPaths}
+use Rattle.remaining.specs.RuleSets.{ByVisit}
 
--- What is known of rule r, which starts at word p: the table is accepted and ordered, s are its set words, and the rows of the rule
--- hold the paths of its EDP.
-pub record RuleGiven (g s rows : List ℕ) (p r : ℕ) : Type 0 where
+-- the set words of a table
+abbrev pub setWords : List ℕ → List ℕ
+setWords g = setsOf g (idsOf g)
+
+-- What is known of rule r, which starts at word p: the table is accepted and ordered, s are its set words, by has them by visit, and the
+-- rows of the rule hold the paths of its EDP.
+pub record RuleGiven (g s by rows : List ℕ) (p r : ℕ) : Type 0 where
   pub good : readTable g ≡ Good
   pub counts : r < rules g
   pub starts : p ≡ ruleAt g r
-  pub sets : s ≡ setsOf g (idsOf g)
+  pub sets : s ≡ setWords g
+  pub byVisit : ByVisit g s by
   pub noncircular : CircularIDP g → ⊥
-  pub ordered : Ordered g (setNumber (setsOf g (idsOf g)))
+  pub ordered : Ordered g (setNumber (setWords g))
   pub room : rowWords (rules g) ≤ length rows
-  pub paths : (o : ℕ) → o < mostOccurrences → word rows (rowWords r + o) ≡ collect mostOccurrences (λ b. edpPaths g (idsOf g) (setsOf g (idsOf g)) r o b)
+  pub paths : (o : ℕ) → o < mostOccurrences → word rows (rowWords r + o) ≡ collect mostOccurrences (λ b. edpPaths g (idsOf g) (setWords g) r o b)
 
 -- a plan with the words from one on replaced by a block, all others as they were
 unfoldable pub withBlock : List ℕ → ℕ → List ℕ → List ℕ

@@ -3,6 +3,7 @@
 use grammar::ROWS;
 use grammar::RULE_WORDS;
 use grammar::SET_WORDS;
+use remaining::ByVisit;
 use remaining::State;
 use remaining::Step;
 ghost use mathlib.Core.Path.{_≡_};
@@ -11,7 +12,6 @@ ghost use lib.ListN.{length};
 ghost use Rattle.grammar.specs.Limits as limits;
 ghost use Rattle.grammar.specs.Table as table;
 ghost use Rattle.relations.specs.Computed.{idsOf};
-ghost use Rattle.sets.specs.Computed.{setsOf};
 ghost use Rattle.sequences.specs.Order.{sequenceOf};
 ghost use Rattle.plans.specs.Buffers.{sequenceWords};
 ghost use Rattle.remaining.specs.RuleSets as masks;
@@ -41,16 +41,16 @@ fn next(
     words: &[u16],
     p: usize,
     r: usize,
-    sets: &[u16],
+    by: &ByVisit,
     rows: &[u64],
     down: &[u64; ROWS],
     state: State,
 ) -> Step
-    requires { ⌜ given.RuleGiven (now words) (now sets) (now rows) p r ⌝ }
-    requires { ⌜ going.Going (now words) (idsOf (now words)) (now sets) r (spec.remains (state .computes) (state .visits) (state .leaves)) (state .waiting) ⌝ }
+    requires { ⌜ given.RuleGiven (now words) (given.setWords (now words)) (now by) (now rows) p r ⌝ }
+    requires { ⌜ going.Going (now words) (idsOf (now words)) (given.setWords (now words)) r (spec.remains (state .computes) (state .visits) (state .leaves)) (state .waiting) ⌝ }
     requires { ⌜ 1 ≤ length (spec.remaining (spec.remains (state .computes) (state .visits) (state .leaves))) ⌝ }
-    requires { ⌜ masks.Along (now words) (now sets) p (state .visits) (now down) ⌝ }
-    ensures { λ s. ⌜ going.Taken (now (words .entry)) (idsOf (now (words .entry))) (now (sets .entry)) r (spec.remains (state .computes) (state .visits) (state .leaves)) (s .action) (spec.remains (s .state .computes) (s .state .visits) (s .state .leaves)) (s .state .waiting) ⌝ }
+    requires { ⌜ masks.Along (now words) (now by) p (state .visits) (now down) ⌝ }
+    ensures { λ s. ⌜ going.Taken (now (words .entry)) (idsOf (now (words .entry))) (given.setWords (now (words .entry))) r (spec.remains (state .computes) (state .visits) (state .leaves)) (s .action) (spec.remains (s .state .computes) (s .state .visits) (s .state .leaves)) (s .state .waiting) ⌝ }
 {
     let computes = bits::minus(state.computes, blocked(rows, ROWS * r, state.waiting));
     if computes != 0 {
@@ -58,24 +58,24 @@ fn next(
     }
     let visits = remaining::ready_visits(down, state.visits, state.waiting);
     if visits != 0 {
-        return remaining::visit(words, p, sets, state, bits::first(visits));
+        return remaining::visit(words, p, by, state, bits::first(visits));
     }
-    let leaves = remaining::ready_leaves(words, p, sets, state);
-    remaining::leave(words, p, sets, state, bits::first(leaves))
+    let leaves = remaining::ready_leaves(words, p, by, state);
+    remaining::leave(words, p, by, state, bits::first(leaves))
 }
 
 // The words of the sequence: length, actions, zeros.
-fn words_of(words: &[u16], p: usize, r: usize, sets: &[u16], rows: &[u64]) -> [u16; RULE_WORDS]
-    requires { ⌜ given.RuleGiven (now words) (now sets) (now rows) p r ⌝ }
-    ensures { λ block. ⌜ block ≡ sequenceWords (sequenceOf (now (words .entry)) (idsOf (now (words .entry))) (now (sets .entry)) r) ⌝ }
+fn words_of(words: &[u16], p: usize, r: usize, by: &ByVisit, rows: &[u64]) -> [u16; RULE_WORDS]
+    requires { ⌜ given.RuleGiven (now words) (given.setWords (now words)) (now by) (now rows) p r ⌝ }
+    ensures { λ block. ⌜ block ≡ sequenceWords (sequenceOf (now (words .entry)) (idsOf (now (words .entry))) (given.setWords (now (words .entry))) r) ⌝ }
 {
-    let mut state = remaining::start(words, p, sets);
+    let mut state = remaining::start(words, p, by);
     let n = remaining::actions_left(state);
-    let down = remaining::taken_along(words, p, sets, state.visits);
+    let down = remaining::taken_along(words, p, by, state.visits);
     let mut block = [0u16; RULE_WORDS];
     block[0] = n as u16;
     for j in 0..n {
-        let step = next(words, p, r, sets, rows, &down, state);
+        let step = next(words, p, r, by, rows, &down, state);
         block[j + 1] = step.action as u16;
         state = step.state;
     }
@@ -93,18 +93,11 @@ pub fn write(plan: &mut [u16], at: usize, block: &[u16])
 }
 
 // The visit-sequence of rule r, which starts at word p.
-pub fn sequence(
-    words: &[u16],
-    p: usize,
-    r: usize,
-    sets: &[u16; SET_WORDS],
-    rows: &[u64],
-    plan: &mut [u16],
-)
-    requires { ⌜ given.RuleGiven (now words) (now sets) (now rows) p r ⌝ }
+pub fn sequence(words: &[u16], p: usize, r: usize, by: &ByVisit, rows: &[u64], plan: &mut [u16])
+    requires { ⌜ given.RuleGiven (now words) (given.setWords (now words)) (now by) (now rows) p r ⌝ }
     requires { ⌜ limits.planWords (table.rules (now words)) ≤ length (now plan) ⌝ }
-    ensures { λ _. ⌜ now (plan .exit) ≡ given.withBlock (now (plan .entry)) (limits.planWords r) (sequenceWords (sequenceOf (now (words .entry)) (idsOf (now (words .entry))) (setsOf (now (words .entry)) (idsOf (now (words .entry)))) r)) ⌝ }
+    ensures { λ _. ⌜ now (plan .exit) ≡ given.withBlock (now (plan .entry)) (limits.planWords r) (sequenceWords (sequenceOf (now (words .entry)) (idsOf (now (words .entry))) (given.setWords (now (words .entry))) r)) ⌝ }
 {
-    let block = words_of(words, p, r, sets, rows);
+    let block = words_of(words, p, r, by, rows);
     write(plan, SET_WORDS + RULE_WORDS * r, &block);
 }

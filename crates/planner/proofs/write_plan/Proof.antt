@@ -1,18 +1,33 @@
 -- `planner::write_plan` meets its contract: after r turns the set words and the sequences of the first r rules are written. Assumes nothing.
-use Rattle.planner.proofs.WriteLaws.{PlanTo, write-room, plan-start, plan-rule, plan-given, plan-fits, plan-turn, plan-finish, plan-kept}
 use borrow.Author.Needs.{needs}
 use Prim.Native.Nat.{_-_}
+use Rattle.planner.proofs.WriteLaws.{
+  PlanTo,
+  write-room,
+  by-symbols,
+  by-few,
+  plan-start,
+  plan-rule,
+  plan-given,
+  plan-fits,
+  plan-turn,
+  plan-finish,
+  plan-kept,
+}
 use Rattle.planner.proofs.write_plan.Statement.{statement}
 use Rattle.planner.proofs.write_plan.Tie as tie
 
 abbrev Inv-loop : tie.InvT-loop
-Inv-loop words offsets sets rows plan₀ count r₀ plan r = PlanTo words offsets sets rows plan₀ plan r
+Inv-loop words offsets sets rows plan₀ by count r₀ plan r = PlanTo words offsets sets rows plan₀ plan r
 
 abbrev μ-loop : tie.MeasureT-loop
-μ-loop words offsets sets rows plan₀ count r₀ plan r = count - r
+μ-loop words offsets sets rows plan₀ by count r₀ plan r = count - r
 
 write-requires : tie.Need-write-requires Inv-loop μ-loop
 write-requires c κs = search (write-room, needs)
+
+by-visit-requires : tie.Need-by-visit-requires Inv-loop μ-loop
+by-visit-requires c κs = (search by-symbols, search by-few)
 
 rules-requires : tie.Need-rules-requires Inv-loop μ-loop
 rules-requires c κs = search needs
@@ -25,9 +40,11 @@ rule-at-requires c κs = search plan-rule
 
 sequence-requires : tie.Need-sequence-requires Inv-loop μ-loop
 sequence-requires c κs =
-    let taken = c .before .before in
-    let turn = taken .before in (
-      search (plan-given, turn .loop .inv, turn .before .rules .ensures .0, taken .loop-test .taken, c .before .rule-at .ensures),
+    let named = c .before .before in
+    let taken = named .before in
+    let turn = taken .before in
+    let counted = turn .before in (
+      search (plan-given, turn .loop .inv, counted .before .by-visit .ensures, counted .rules .ensures .0, taken .loop-test .taken, named .rule-at .ensures),
       search (plan-fits, turn .loop .inv),
     )
 
@@ -40,7 +57,7 @@ loop-less c = search needs
 loop-again : tie.Need-loop-again Inv-loop μ-loop
 loop-again c =
     let written = c .before .before in
-    let taken = written .before .before .before in
+    let taken = written .before .before .before .before in
     let turn = taken .before in
     search (plan-turn, turn .loop .inv, turn .before .rules .ensures .0, taken .loop-test .taken, written .sequence .ensures)
 
@@ -57,6 +74,7 @@ write-plan-spec =
     Inv-loop
     μ-loop
     write-requires
+    by-visit-requires
     rules-requires
     loop-holds
     rule-at-requires

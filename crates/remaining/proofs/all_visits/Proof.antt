@@ -2,15 +2,15 @@
 -- and the left side, which is no child, has none. Assumes nothing.
 use borrow.Author.Needs.{needs}
 use Prim.Native.Nat.{_-_}
-use Rattle.remaining.proofs.BlockSetLaws.{Calling, calling-start, calling-few, calling-block, calling-place, calling-turn, calling-finish}
+use Rattle.remaining.proofs.BlockSetLaws.{Calling, calling-start, calling-low, calling-block, calling-place, calling-turn, calling-finish}
 use Rattle.remaining.proofs.all_visits.Statement.{statement}
 use Rattle.remaining.proofs.all_visits.Tie as tie
 
 abbrev Inv-loop : tie.InvT-loop
-Inv-loop words p sets n visits₀ i₀ visits i = Calling words sets p n visits i
+Inv-loop words p by n visits₀ i₀ visits i = Calling words by p n visits i
 
 abbrev μ-loop : tie.MeasureT-loop
-μ-loop words p sets n visits₀ i₀ visits i = n - i
+μ-loop words p by n visits₀ i₀ visits i = n - i
 
 right-length-requires : tie.Need-right-length-requires Inv-loop μ-loop
 right-length-requires c κs = search needs
@@ -24,8 +24,8 @@ add-symbol-of c = search needs
 symbol-of-requires : tie.Need-symbol-of-requires Inv-loop μ-loop
 symbol-of-requires c κs = search needs
 
-child-visits-requires : tie.Need-child-visits-requires Inv-loop μ-loop
-child-visits-requires c κs = (search needs, search calling-few)
+visits-in-requires : tie.Need-visits-in-requires Inv-loop μ-loop
+visits-in-requires c κs = search calling-low
 
 add-raised : tie.Need-add-raised Inv-loop μ-loop
 add-raised c = search needs
@@ -61,7 +61,7 @@ all-visits-spec =
     loop-holds
     add-symbol-of
     symbol-of-requires
-    child-visits-requires
+    visits-in-requires
     add-raised
     mul-raised
     raised-requires

@@ -1,28 +1,24 @@
--- `remaining::inherited_of` meets its contract: visit n has the even set 2 (v + 1 - n). Assumes nothing.
+-- `remaining::inherited_of` meets its contract: each visit has its own eight places of the symbol's word. Assumes nothing.
 use borrow.Author.Needs.{needs}
-use Rattle.remaining.proofs.SetMaskLaws.{inherited-by}
+use Rattle.remaining.proofs.LeftLaws.{inherited-by}
 use Rattle.remaining.proofs.inherited_of.Statement.{statement}
 use Rattle.remaining.proofs.inherited_of.Tie as tie
 
-visits-of-requires : tie.Need-visits-of-requires
-visits-of-requires c κs = search needs
+mul-field : tie.Need-mul-field
+mul-field c = search needs
 
-add-set-mask : tie.Need-add-set-mask
-add-set-mask c = search needs
+element-copy-out-field : tie.Need-element-copy-out-field
+element-copy-out-field c = search needs
 
-sub-set-mask : tie.Need-sub-set-mask
-sub-set-mask c = search needs
+mul-field-2 : tie.Need-mul-field-2
+mul-field-2 c = search needs
 
-mul-set-mask : tie.Need-mul-set-mask
-mul-set-mask c = search needs
-
-set-mask-requires : tie.Need-set-mask-requires
-set-mask-requires c κs = search needs
+field-requires : tie.Need-field-requires
+field-requires c κs = search needs
 
 returns : tie.Need-returns
 returns c = search inherited-by
 
 pub inherited-of-spec : {M : Type 1} → statement M
 inherited-of-spec =
-    tie.close
-    (tie.spec visits-of-requires add-set-mask sub-set-mask mul-set-mask set-mask-requires returns)
+    tie.close (tie.spec mul-field element-copy-out-field mul-field-2 field-requires returns)

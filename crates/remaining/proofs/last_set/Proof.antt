@@ -2,7 +2,7 @@
 -- Assumes nothing.
 use borrow.Author.Needs.{needs}
 use Prim.Native.Nat.{_-_}
-use Rattle.remaining.proofs.SetMaskLaws.{Climbing, climbing-start, climbing-turn, climbing-finish}
+use Rattle.remaining.proofs.PartLaws.{Climbing, climbing-start, climbing-turn, climbing-finish}
 use Rattle.remaining.proofs.last_set.Statement.{statement}
 use Rattle.remaining.proofs.last_set.Tie as tie
 

@@ -1,6 +1,6 @@
 -- `remaining::leave` meets its contract: the leave is taken out, and what the parent hands down next no longer waits. Assumes nothing.
 use borrow.Author.Needs.{needs}
-use Rattle.remaining.proofs.LeftLaws.{leave-answer, down-inside}
+use Rattle.remaining.proofs.LeftLaws.{leave-answer}
 use Rattle.remaining.proofs.leave.Statement.{statement}
 use Rattle.remaining.proofs.leave.Tie as tie
 
@@ -11,7 +11,7 @@ add-inherited-of : tie.Need-add-inherited-of
 add-inherited-of c = search needs
 
 inherited-of-requires : tie.Need-inherited-of-requires
-inherited-of-requires c κs = (search needs, search (down-inside, needs))
+inherited-of-requires c κs = search needs
 
 add-t7 : tie.Need-add-t7
 add-t7 c = search needs

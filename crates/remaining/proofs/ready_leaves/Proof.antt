@@ -1,6 +1,6 @@
 -- `remaining::ready_leaves` meets its contract: only the lowest leave can be ready, and it is where its test holds. Assumes nothing.
 use borrow.Author.Needs.{needs}
-use Rattle.remaining.proofs.LeaveSetLaws.{no-leaves, last-leaves, next-leaves, leave-inside}
+use Rattle.remaining.proofs.LeaveSetLaws.{no-leaves, last-leaves, next-leaves, leave-few}
 use Rattle.remaining.proofs.ready_leaves.Statement.{statement}
 use Rattle.remaining.proofs.ready_leaves.Tie as tie
 
@@ -25,11 +25,8 @@ returns-2 c = search last-leaves
 symbol-of-requires : tie.Need-symbol-of-requires
 symbol-of-requires c κs = search needs
 
-add-synthesized-of : tie.Need-add-synthesized-of
-add-synthesized-of c = search needs
-
 synthesized-of-requires : tie.Need-synthesized-of-requires
-synthesized-of-requires c κs = (search needs, search leave-inside)
+synthesized-of-requires c κs = (search needs, search leave-few)
 
 common-requires : tie.Need-common-requires
 common-requires c κs = search needs
@@ -51,7 +48,6 @@ ready-leaves-spec =
     put-requires
     returns-2
     symbol-of-requires
-    add-synthesized-of
     synthesized-of-requires
     common-requires
     put-requires-2

@@ -1,6 +1,6 @@
 -- `remaining::start` meets its contract: each of the four sets is what its call answers. Assumes nothing.
 use borrow.Author.Needs.{needs}
-use Rattle.remaining.proofs.LeftLaws.{started-by, few-leaves}
+use Rattle.remaining.proofs.LeftLaws.{started-by, left-low}
 use Rattle.remaining.proofs.start.Statement.{statement}
 use Rattle.remaining.proofs.start.Tie as tie
 
@@ -13,17 +13,14 @@ defining-set-requires c κs = search needs
 all-visits-requires : tie.Need-all-visits-requires
 all-visits-requires c κs = search needs
 
-visits-of-requires : tie.Need-visits-of-requires
-visits-of-requires c κs = search needs
-
-below-requires : tie.Need-below-requires
-below-requires c κs = search few-leaves
+visits-in-requires : tie.Need-visits-in-requires
+visits-in-requires c κs = search left-low
 
 made-occurrences-requires : tie.Need-made-occurrences-requires
 made-occurrences-requires c κs = search needs
 
 inherited-of-requires : tie.Need-inherited-of-requires
-inherited-of-requires c κs = search needs
+inherited-of-requires c κs = (search left-low, search needs)
 
 minus-requires : tie.Need-minus-requires
 minus-requires c κs = search needs
@@ -38,8 +35,7 @@ start-spec =
     symbol-of-requires
     defining-set-requires
     all-visits-requires
-    visits-of-requires
-    below-requires
+    visits-in-requires
     made-occurrences-requires
     inherited-of-requires
     minus-requires

@@ -1,17 +1,18 @@
 -- `remaining::taken_along` meets its contract. At every turn the visits that are no longer left have their words; the measure is what is left
 -- of the visits, as a number. Assumes nothing.
-use Rattle.bits.proofs.RestLaws.{rest-of}
 use borrow.Author.Needs.{needs}
+use Rattle.bits.proofs.RestLaws.{rest-of}
 use Rattle.remaining.proofs.MemberWalks.{left-less}
-use Rattle.remaining.proofs.AlongLaws.{TakingAlong, filling-start, filling-child, filling-turn, filling-finish, along-small}
+use Rattle.remaining.proofs.MaskLaws.{inherited-small}
+use Rattle.remaining.proofs.AlongLaws.{TakingAlong, filling-start, filling-child, filling-turn, filling-finish}
 use Rattle.remaining.proofs.taken_along.Statement.{statement}
 use Rattle.remaining.proofs.taken_along.Tie as tie
 
 abbrev Inv-loop : tie.InvT-loop
-Inv-loop words p sets visits down₀ left₀ down left = TakingAlong words sets p visits left down
+Inv-loop words p by visits down₀ left₀ down left = TakingAlong words by p visits left down
 
 abbrev μ-loop : tie.MeasureT-loop
-μ-loop words p sets visits down₀ left₀ down left = left
+μ-loop words p by visits down₀ left₀ down left = left
 
 loop-holds : tie.Need-loop-holds Inv-loop μ-loop
 loop-holds c = search (filling-start, needs)
@@ -22,17 +23,14 @@ first-requires c κs = search needs
 symbol-of-requires : tie.Need-symbol-of-requires Inv-loop μ-loop
 symbol-of-requires c κs = search needs
 
-add-inherited-of : tie.Need-add-inherited-of Inv-loop μ-loop
-add-inherited-of c = search needs
-
 inherited-of-requires : tie.Need-inherited-of-requires Inv-loop μ-loop
-inherited-of-requires c κs = (search needs, search filling-child)
+inherited-of-requires c κs = (search filling-child, search needs)
 
 mul-raised : tie.Need-mul-raised Inv-loop μ-loop
 mul-raised c = search needs
 
 raised-requires : tie.Need-raised-requires Inv-loop μ-loop
-raised-requires c κs = (search along-small, search needs)
+raised-requires c κs = (search inherited-small, search needs)
 
 mul-down : tie.Need-mul-down Inv-loop μ-loop
 mul-down c = search needs
@@ -61,7 +59,6 @@ taken-along-spec =
     loop-holds
     first-requires
     symbol-of-requires
-    add-inherited-of
     inherited-of-requires
     mul-raised
     raised-requires

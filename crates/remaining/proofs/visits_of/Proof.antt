@@ -1,6 +1,6 @@
 -- `remaining::visits_of` meets its contract: half of the last set, rounded up, and at least 1. Assumes nothing.
 use borrow.Author.Needs.{needs}
-use Rattle.remaining.proofs.SetMaskLaws.{visits-by}
+use Rattle.remaining.proofs.PartLaws.{visits-by}
 use Rattle.remaining.proofs.visits_of.Statement.{statement}
 use Rattle.remaining.proofs.visits_of.Tie as tie
 

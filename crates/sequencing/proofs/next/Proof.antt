@@ -1,7 +1,7 @@
 -- `sequencing::next` meets its contract. Each of the three sets has exactly the actions of its kind that are ready, and some action always is: so the
 -- lowest member of the first set that is not empty is the lowest ready action. Assumes nothing.
 use borrow.Author.Needs.{needs}
-use Rattle.sequencing.proofs.GivenLaws.{place-small, rows-ready}
+use Rattle.sequencing.proofs.GivenLaws.{place-small, left-low, rows-ready}
 use Rattle.sequencing.proofs.NextLaws.{
   next-compute,
   next-visit,
@@ -45,13 +45,13 @@ returns-2 : tie.Need-returns-2
 returns-2 c = search (next-visit, needs)
 
 ready-leaves-requires : tie.Need-ready-leaves-requires
-ready-leaves-requires c κs = (search place-small, search leaves-left)
+ready-leaves-requires c κs = ((search place-small, search left-low), search leaves-left)
 
 first-requires-3 : tie.Need-first-requires-3
 first-requires-3 c κs = search (leave-ready-then, needs)
 
 leave-requires : tie.Need-leave-requires
-leave-requires c κs = ((search place-small, search needs), search leave-inside)
+leave-requires c κs = ((search place-small, search leave-inside), search left-low)
 
 returns-3 : tie.Need-returns-3
 returns-3 c = search (next-leave, needs)

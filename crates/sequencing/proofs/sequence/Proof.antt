@@ -27,4 +27,12 @@ returns c = search sequence-written
 
 pub sequence-spec : {M : Type 1} → statement M
 sequence-spec =
-    tie.close (tie.spec words-of-requires mul-write add-write slice-aggregate-write write-requires same-length returns)
+    tie.close
+    (tie.spec
+    words-of-requires
+    mul-write
+    add-write
+    slice-aggregate-write
+    write-requires
+    same-length
+    returns)

@@ -4,7 +4,6 @@ use borrow.Author.Needs.{needs}
 use Prim.Native.Nat.{_-_}
 use Rattle.sequencing.proofs.WritingLaws.{
   shaped-given,
-  few-given,
   children-start,
   Writing,
   writing-start,
@@ -12,19 +11,19 @@ use Rattle.sequencing.proofs.WritingLaws.{
   writing-turn,
   writing-finish,
 }
-use Rattle.sequencing.proofs.GivenLaws.{place-small}
+use Rattle.sequencing.proofs.GivenLaws.{place-small, tabled-given}
+use Rattle.sequencing.specs.Given.{setWords}
 use Rattle.sequencing.proofs.words_of.Statement.{statement}
 use Rattle.sequencing.proofs.words_of.Tie as tie
 
 abbrev Inv-loop : tie.InvT-loop
-Inv-loop words p r sets rows state₀ n down block₀ j₀ state block j =
-    Writing words sets rows p r n down block (state .computes) (state .visits) (state .leaves) (state .waiting) j
+Inv-loop words p r by rows state₀ n down block₀ j₀ state block j = Writing words (setWords words) by rows p r n down block (state .computes) (state .visits) (state .leaves) (state .waiting) j
 
 abbrev μ-loop : tie.MeasureT-loop
-μ-loop words p r sets rows state₀ n down block₀ j₀ state block j = n - j
+μ-loop words p r by rows state₀ n down block₀ j₀ state block j = n - j
 
 start-requires : tie.Need-start-requires Inv-loop μ-loop
-start-requires c κs = (search place-small, (search shaped-given, search few-given))
+start-requires c κs = (search place-small, (search shaped-given, search tabled-given))
 
 actions-left-requires : tie.Need-actions-left-requires Inv-loop μ-loop
 actions-left-requires c κs = search needs
