@@ -9,17 +9,19 @@ use native.Mathlib.Omega.{arith}
 use lib.Dec.{T, ltb, leb, T-not}
 use lib.Pow.{ones-lt}
 use borrow.Author.Tests.{lt-ltb, le-ltb, le-leb, lt-leb}
+use lib.ListN.{getD}
 use Rattle.basics.specs.Tests.{_and_}
+use Rattle.basics.specs.Lists.{word}
 use Rattle.basics.proofs.TestLaws.{below-or-not, chosen, true-T}
-use Rattle.bits.specs.Bit.{bit, number, hasb, collect, below, union, raised}
+use Rattle.bits.specs.Bit.{bit, number, hasb, collect, below, union, field, raised}
+use Rattle.bits.proofs.ShiftLaws.{field-lt, has-field}
 use Rattle.bits.proofs.BitLaws.{bit-above, bit-below, bit-of-zero, bit-has, number-hasb}
 use Rattle.bits.proofs.CollectLaws.{collect-lt}
 use Rattle.bits.proofs.MemberLaws.{hasb-collect, hasb-below, none-left, no-member}
-use Rattle.grammar.specs.Limits.{mostSymbols}
 use Rattle.grammar.specs.Table.{attributes, nonterminal, lengthAt}
 use Rattle.access.specs.ByPlace.{symbolFrom, Shaped}
 use Rattle.access.proofs.Blocks.{block-more, collect-rest, below-small}
-use Rattle.remaining.specs.RuleSets.{symbolVisits, madeAttributes, visitsIn, visitFrom, visitsFrom, occurrencesFrom, madeFrom, Tabled}
+use Rattle.remaining.specs.RuleSets.{symbolVisits, madeAttributes, childIn, childrenIn, occurrencesFrom, madeFrom, Tabled}
 
 bit-of-block : (t : Bool) (n a : ℕ) → bit a (cond t (below n) 0) ≡ number (t and ltb a n)
 unfolding _and_
@@ -59,10 +61,6 @@ module _ (g : List ℕ) (x v : ℕ) where
   pub visits-has : (n : ℕ) → T (nonterminal g x) → n < v → T (hasb n (symbolVisits g x v))
   unfolding symbolVisits
   visits-has n t h = subst⁻¹ (λ (y : ℕ). T (hasb n y)) (chosen (nonterminal g x) (below v) 0 t) (true-T _ (bit-has n (below v) (bit-below v n h)))
-
-  pub visits-small : v ≤ 5 → symbolVisits g x v < 256
-  unfolding symbolVisits
-  visits-small few = block-small (nonterminal g x) v (omega arith)
 
 module _ (g : List ℕ) (x : ℕ) where
   pub made-yes : (t : Bool) (k r : ℕ) → t ≡ nonterminal g x → t ≡ true → k ≡ attributes g x → r ≡ below k → r ≡ madeAttributes g x
@@ -143,39 +141,47 @@ module _ (g : List ℕ) (p : ℕ) where
       ∙ (ap (λ (k : ℕ). collect (8 * k) (λ o. madeFrom g p o)) e
       ∙ sym (collect-rest (8 * (lengthAt g p + 1)) 64 (λ o. madeFrom g p o) (omega (arith, w .shaped .short)) made-past))
 
-module _ (g by : List ℕ) (p : ℕ) where
-  visit-bit : (i a : ℕ) → i < lengthAt g p → a < 8 → bit a (visitsIn by (symbolFrom g p (i + 1))) ≡ number (visitFrom g by p (8 * (i + 1) + a))
-  unfolding visitFrom _and_
-  visit-bit i a h l =
+-- the lowest eight bits of a child's word
+module _ (g by : List ℕ) (p from : ℕ) where
+  abbrev lowBits : ℕ → ℕ
+  lowBits x = field 0 (word by (from + x))
+
+  child-bit : (i a : ℕ) → i < lengthAt g p → a < 8 → bit a (lowBits (symbolFrom g p (i + 1))) ≡ number (childIn g by p from (8 * (i + 1) + a))
+  unfolding childIn _and_
+  child-bit i a h l =
       let place : (8 * (i + 1) + a) / 8 ≡ i + 1 = omega arith in
       let own : (8 * (i + 1) + a) % 8 ≡ a = omega arith in
-      sym (number-hasb a (visitsIn by (symbolFrom g p (i + 1))))
-      ∙ sym (ap number
-      (ap₂ (λ (j b : ℕ). (leb 1 j and leb j (lengthAt g p)) and hasb b (visitsIn by (symbolFrom g p j))) place own
-      ∙ ap₂ (λ (t u : Bool). (t and u) and hasb a (visitsIn by (symbolFrom g p (i + 1))))
-      (le-leb 1 (i + 1) (omega arith)) (le-leb (i + 1) (lengthAt g p) (omega arith))))
+      let same : 0 + a ≡ a = omega arith in
+      sym (number-hasb a (lowBits (symbolFrom g p (i + 1))))
+      ∙ ap number
+      (has-field 0 a (word by (from + symbolFrom g p (i + 1))) l
+      ∙ (ap (λ (b : ℕ). hasb b (word by (from + symbolFrom g p (i + 1)))) same
+      ∙ sym
+      (ap₂ (λ (j b : ℕ). (leb 1 j and leb j (lengthAt g p)) and hasb b (word by (from + symbolFrom g p j))) place own
+      ∙ ap₂ (λ (t u : Bool). (t and u) and hasb a (word by (from + symbolFrom g p (i + 1))))
+      (le-leb 1 (i + 1) (omega arith)) (le-leb (i + 1) (lengthAt g p) (omega arith)))))
 
-  visit-past : (b : ℕ) → 8 * (lengthAt g p + 1) ≤ b → visitFrom g by p b ≡ false
-  unfolding visitFrom _and_
-  visit-past b h =
-      ap₂ (λ (t u : Bool). (t and u) and hasb (b % 8) (visitsIn by (symbolFrom g p (b / 8))))
+  child-past : (b : ℕ) → 8 * (lengthAt g p + 1) ≤ b → childIn g by p from b ≡ false
+  unfolding childIn _and_
+  child-past b h =
+      ap₂ (λ (t u : Bool). (t and u) and hasb (b % 8) (word by (from + symbolFrom g p (b / 8))))
       (le-leb 1 (b / 8) (omega arith)) (lt-leb (b / 8) (lengthAt g p) (omega arith))
 
   -- the left side is no child
-  visit-none : (b : ℕ) → b < 8 → visitFrom g by p b ≡ false
-  unfolding visitFrom _and_
-  visit-none b h =
-      ap (λ (t : Bool). (t and leb (b / 8) (lengthAt g p)) and hasb (b % 8) (visitsIn by (symbolFrom g p (b / 8))))
+  child-none : (b : ℕ) → b < 8 → childIn g by p from b ≡ false
+  unfolding childIn _and_
+  child-none b h =
+      ap (λ (t : Bool). (t and leb (b / 8) (lengthAt g p)) and hasb (b % 8) (word by (from + symbolFrom g p (b / 8))))
       (lt-leb 1 (b / 8) (omega arith))
 
   pub record Calling (end found i : ℕ) : Type 0 where
     pub endIs : end ≡ lengthAt g p
     pub inside : i ≤ end
     pub shaped : Shaped g p
-    pub tabled : Tabled g by p
-    pub foundIs : found ≡ collect (8 * (i + 1)) (λ b. visitFrom g by p b)
+    pub tabled : Tabled g p
+    pub foundIs : found ≡ collect (8 * (i + 1)) (λ b. childIn g by p from b)
 
-  pub calling-start : (end : ℕ) → Shaped g p → Tabled g by p → end ≡ lengthAt g p → Calling end 0 0
+  pub calling-start : (end : ℕ) → Shaped g p → Tabled g p → end ≡ lengthAt g p → Calling end 0 0
   calling-start end w tabled e =
       record {
         endIs = e;
@@ -183,27 +189,27 @@ module _ (g by : List ℕ) (p : ℕ) where
         shaped = w;
         tabled = tabled;
         foundIs =
-            sym (no-member (collect 8 (λ b. visitFrom g by p b))
+            sym (no-member (collect 8 (λ b. childIn g by p from b))
             (λ b t.
-            let h : b < 8 = hasb-below 8 b (collect 8 (λ b. visitFrom g by p b)) (collect-lt 8 _) t in
-            subst (λ (x : Bool). T x) (hasb-collect 8 b _ h ∙ visit-none b h) t));
+            let h : b < 8 = hasb-below 8 b (collect 8 (λ b. childIn g by p from b)) (collect-lt 8 _) t in
+            subst (λ (x : Bool). T x) (hasb-collect 8 b _ h ∙ child-none b h) t));
       }
 
-  pub calling-low : (end found i x : ℕ) → Calling end found i → i < end → x ≡ symbolFrom g p (i + 1) → x < mostSymbols
-  calling-low end found i x w h e = omega (arith, e, w .tabled .low (i + 1) (omega (arith, w .endIs)))
+  -- the child's word is one of the table
+  pub calling-low : (end found i x : ℕ) → Calling end found i → i < end → x ≡ symbolFrom g p (i + 1) → from ≤ 64 → from + x < 96
+  calling-low end found i x w h e l = omega (arith, e, w .tabled (i + 1) (omega (arith, w .endIs)))
 
-  pub calling-block : (end found i x there : ℕ) → Calling end found i → i < end → x ≡ symbolFrom g p (i + 1) → there ≡ visitsIn by x → there < 256
-  calling-block end found i x there w h e f =
-      subst⁻¹ (λ (y : ℕ). y < 256) (f ∙ ap (visitsIn by) e) (w .tabled .small (i + 1) (omega (arith, w .endIs)))
+  pub calling-block : (x there : ℕ) → there ≡ field 0 (getD by (from + x) 0) → there < 256
+  calling-block x there f = subst⁻¹ (λ (y : ℕ). y < 256) f (field-lt 0 (word by (from + x)))
 
   pub calling-place : (end found i : ℕ) → Calling end found i → i < end → 8 * (i + 1) ≤ 56
   calling-place end found i w h = omega (arith, w .endIs, w .shaped .short)
 
-  pub calling-turn : (end found i x there part next : ℕ) → Calling end found i → i < end → x ≡ symbolFrom g p (i + 1) → there ≡ visitsIn by x
-      → part ≡ raised (8 * (i + 1)) there → next ≡ union part found → Calling end next (i + 1)
+  pub calling-turn : (end found i x there part next : ℕ) → Calling end found i → i < end → x ≡ symbolFrom g p (i + 1)
+      → there ≡ field 0 (getD by (from + x) 0) → part ≡ raised (8 * (i + 1)) there → next ≡ union part found → Calling end next (i + 1)
   unfolding raised
   calling-turn end found i x there part next w h e f q n =
-      let b : there ≡ visitsIn by (symbolFrom g p (i + 1)) = f ∙ ap (visitsIn by) e in
+      let b : there ≡ lowBits (symbolFrom g p (i + 1)) = f ∙ ap (λ (y : ℕ). lowBits y) e in
       record {
         endIs = w .endIs;
         inside = omega arith;
@@ -212,14 +218,14 @@ module _ (g by : List ℕ) (p : ℕ) where
         foundIs =
             n
             ∙ (ap₂ union (q ∙ ap (λ (y : ℕ). y * 2 ^ (8 * (i + 1))) b) (w .foundIs)
-            ∙ block-more (λ b. visitFrom g by p b) (i + 1) (visitsIn by (symbolFrom g p (i + 1)))
-            (w .tabled .small (i + 1) (omega (arith, w .endIs))) (λ a l. visit-bit i a (omega (arith, w .endIs)) l));
+            ∙ block-more (λ b. childIn g by p from b) (i + 1) (lowBits (symbolFrom g p (i + 1)))
+            (field-lt 0 (word by (from + symbolFrom g p (i + 1)))) (λ a l. child-bit i a (omega (arith, w .endIs)) l));
       }
 
-  pub calling-finish : (end found i : ℕ) → Calling end found i → end ≤ i → found ≡ visitsFrom g by p
-  unfolding visitsFrom
+  pub calling-finish : (end found i : ℕ) → Calling end found i → end ≤ i → found ≡ childrenIn g by p from
+  unfolding childrenIn
   calling-finish end found i w h =
       let e : i ≡ lengthAt g p = omega (arith, w .inside, w .endIs) in
       w .foundIs
-      ∙ (ap (λ (k : ℕ). collect (8 * (k + 1)) (λ b. visitFrom g by p b)) e
-      ∙ sym (collect-rest (8 * (lengthAt g p + 1)) 64 (λ b. visitFrom g by p b) (omega (arith, w .shaped .short)) visit-past))
+      ∙ (ap (λ (k : ℕ). collect (8 * (k + 1)) (λ b. childIn g by p from b)) e
+      ∙ sym (collect-rest (8 * (lengthAt g p + 1)) 64 (λ b. childIn g by p from b) (omega (arith, w .shaped .short)) child-past))

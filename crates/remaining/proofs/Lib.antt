@@ -4,6 +4,5 @@ pub mod MaskLaws
 pub mod BlockSetLaws
 pub mod LeftLaws
 pub mod MemberWalks
-pub mod AlongLaws
 pub mod VisitSetLaws
 pub mod LeaveSetLaws

@@ -1,7 +1,7 @@
 -- The masks by their members: which attributes are in a set, which occurrences a visit or a leave makes available, which visits are ready.
 -- Assumes nothing.
 use Prim.Native.Nat.{ℕ, _+_, _*_, _-_, _/_, _%_, _≤_, _<_}
-use mathlib.Core.Path.{_≡_, refl, subst, subst⁻¹}
+use mathlib.Core.Path.{_≡_, refl, sym, _∙_, ap, subst, subst⁻¹}
 use mathlib.Core.Logic.{⊎-elim}
 use mathlib.Core.Bool.{Bool}
 use mathlib.Core.List.{List}
@@ -9,7 +9,7 @@ use native.Mathlib.Omega.{arith}
 use lib.Dec.{T, leb, eqb→eq, leb→le, le→leb, T-not}
 use Rattle.basics.specs.Lists.{word}
 use Rattle.bits.specs.Bit.{hasb, raised, common, field, lowest}
-use Rattle.bits.proofs.BitLaws.{bit-has, bit-lacks}
+use Rattle.bits.proofs.BitLaws.{bit-below, bit-has, bit-lacks}
 use Rattle.bits.proofs.CollectLaws.{collect-lt}
 use Rattle.bits.proofs.LowestLaws.{IsLowest, lowest-is}
 use Rattle.bits.proofs.ShiftLaws.{field-lt, has-field, has-raised, raised-low}
@@ -26,7 +26,6 @@ use Rattle.remaining.specs.RuleSets.{
   synthesizedMask,
   handedUp,
   handedDown,
-  takenAlong,
   Along,
   visitReady,
   readyVisits,
@@ -118,6 +117,18 @@ of-next left b w = ⊎-elim low (λ l. le→leb _ _ l) (below-or-not (lowest 64 
         (subst (λ (x : Bool). T x) (has-field (8 * (b / 8)) (lowest 64 (field (8 * (b / 8)) left)) left (omega arith))
         (true-T _ (bit-has _ _ (f .member (omega arith))))))
 
+-- those of the first visit are the lowest eight bits
+pub first-inherited : (by : List ℕ) (x a : ℕ) → a < 8
+    → (T (hasb a (inheritedMask by x 0)) → T (hasb a (word by (0 + x)))) × (T (hasb a (word by (0 + x))) → T (hasb a (inheritedMask by x 0)))
+unfolding inheritedMask
+first-inherited by x a h =
+    let none : 8 * 0 + a ≡ a = omega arith in
+    let same : 0 + x ≡ x = omega arith in
+    let e : hasb a (field (8 * 0) (word by x)) ≡ hasb a (word by (0 + x)) =
+    has-field (8 * 0) a (word by x) h
+    ∙ (ap (λ (b : ℕ). hasb b (word by x)) none ∙ sym (ap (λ (y : ℕ). hasb a (word by y)) same)) in
+    (λ t. subst (λ (b : Bool). T b) e t, λ t. subst⁻¹ (λ (b : Bool). T b) e t)
+
 pub inherited-small : (by : List ℕ) (x n mask : ℕ) → mask ≡ inheritedMask by x n → mask < 256
 unfolding inheritedMask
 inherited-small by x n mask e = subst⁻¹ (λ (y : ℕ). y < 256) e (field-lt (8 * n) (word by x))
@@ -169,46 +180,58 @@ module _ (g s : List ℕ) (p : ℕ) where
     pub handed : (a : ℕ) → a < 8 → T (hasb (8 * (b / 8) + a) waiting)
         → setNumber s (symbolFrom g p (b / 8)) a ≡ 2 * (visits s (symbolFrom g p (b / 8)) + 1 - (b % 8 + 1)) → ⊥
 
-module _ (g s by : List ℕ) (p : ℕ) (down : List ℕ) (left waiting : ℕ) (seen : SeenVisits g s by p left) (along : Along g by p left down) where
+-- the eight places of a child
+pub in-child : (i k : ℕ) → T (hasb k (raised (8 * i) 255)) → k / 8 ≡ i
+in-child i k t = raised-at 255 i k (omega arith) t .0
+
+pub child-in : (i k : ℕ) → k / 8 ≡ i → T (hasb k (raised (8 * i) 255))
+child-in i k e = at-raised 255 i k e (true-T _ (bit-has (k % 8) 255 (bit-below 8 (k % 8) (omega arith))))
+
+module _ (g s by : List ℕ) (p left waiting wanted : ℕ) (seen : SeenVisits g s by p left) (along : Along g by p left wanted) where
   module _ (b : ℕ) (h : b < 64) (i : T (hasb b left)) where
-    passes : T (visitReady down left waiting b) → Passes g s p left waiting b
-    unfolding visitReady takenAlong
+    passes : T (visitReady left (common wanted waiting) b) → Passes g s p left waiting b
+    unfolding visitReady
     passes t =
         record {
           next = λ k l u. next-of left b (and-left _ _ t) k l u;
           handed = λ a l u e.
-              let own : (8 * (b / 8) + a) % 8 ≡ a = omega arith in
+              let o : ℕ = 8 * (b / 8) + a in
+              let own : o % 8 ≡ a = omega arith in
+              let there : o / 8 ≡ b / 8 = omega arith in
               let v = seen b h i in
-              T-not (hasb (8 * (b / 8) + a) 0) (none-left (8 * (b / 8) + a))
-              (subst (λ (x : ℕ). T (hasb (8 * (b / 8) + a) x)) (eqb→eq _ _ (and-right _ _ t))
-              (both-common (8 * (b / 8) + a) _ _
-              (subst⁻¹ (λ (x : ℕ). T (hasb (8 * (b / 8) + a) x)) (along .is b h i)
-              (at-raised _ (b / 8) (8 * (b / 8) + a) (omega arith)
+              T-not (hasb o 0) (none-left o)
+              (subst (λ (x : ℕ). T (hasb o x)) (eqb→eq _ _ (and-right _ _ t))
+              (both-common o (common wanted waiting) (raised (8 * (b / 8)) 255)
+              (both-common o wanted waiting
+              (along .taken b o h i (λ k l u. next-of left b (and-left _ _ t) k l u) there
               (subst⁻¹ (λ (y : ℕ). T (hasb y (inheritedMask by (symbolFrom g p (b / 8)) (b % 8)))) own
-              (inherited-in s by (symbolFrom g p (b / 8)) (b % 8) (v .0) (omega arith) (omega (arith, v .1)) a l e)))) u));
+              (inherited-in s by (symbolFrom g p (b / 8)) (b % 8) (v .0) (omega arith) (omega (arith, v .1)) a l e))) u)
+              (child-in (b / 8) o there)));
         }
 
-    passing : Passes g s p left waiting b → T (visitReady down left waiting b)
-    unfolding visitReady takenAlong
+    passing : Passes g s p left waiting b → T (visitReady left (common wanted waiting) b)
+    unfolding visitReady
     passing w =
         and-intro _ _ (of-next left b (w .next))
-        (eq-T _ _ (no-member (common (word down b) waiting)
+        (eq-T _ _ (no-member (common (common wanted waiting) (raised (8 * (b / 8)) 255))
         (λ o t.
-        let v = common-both o (word down b) waiting t in
+        let v = common-both o (common wanted waiting) (raised (8 * (b / 8)) 255) t in
+        let u = common-both o wanted waiting (v .0) in
         let k = seen b h i in
-        let u = raised-at _ (b / 8) o (inherited-small by (symbolFrom g p (b / 8)) (b % 8) _ refl) (subst (λ (x : ℕ). T (hasb o x)) (along .is b h i) (v .0)) in
-        let e : o ≡ 8 * (b / 8) + o % 8 = omega (arith, u .0) in
-        w .handed (o % 8) (omega arith) (subst (λ (x : ℕ). T (hasb x waiting)) e (v .1))
-        (in-inherited s by (symbolFrom g p (b / 8)) (b % 8) (k .0) (omega arith) (omega (arith, k .1)) (o % 8) (u .1) .1))))
+        let q : o / 8 ≡ b / 8 = in-child (b / 8) o (v .1) in
+        let e : o ≡ 8 * (b / 8) + o % 8 = omega arith in
+        w .handed (o % 8) (omega arith) (subst (λ (x : ℕ). T (hasb x waiting)) e (u .1))
+        (in-inherited s by (symbolFrom g p (b / 8)) (b % 8) (k .0) (omega arith) (omega (arith, k .1)) (o % 8)
+        (along .takes b o h i (w .next) q (u .0)) .1))))
 
   -- the visits that are ready
-  pub ready-at : (b : ℕ) → T (hasb b (readyVisits down left waiting)) → (b < 64) × T (hasb b left) × Passes g s p left waiting b
+  pub ready-at : (b : ℕ) → T (hasb b (readyVisits left (common wanted waiting))) → (b < 64) × T (hasb b left) × Passes g s p left waiting b
   unfolding readyVisits
   ready-at b t =
-      let h : b < 64 = hasb-below 64 b (readyVisits down left waiting) (collect-lt 64 _) t in
+      let h : b < 64 = hasb-below 64 b (readyVisits left (common wanted waiting)) (collect-lt 64 _) t in
       let u = subst (λ (x : Bool). T x) (hasb-collect 64 b _ h) t in
       (h, and-left _ _ u, passes b h (and-left _ _ u) (and-right _ _ u))
 
-  pub at-ready : (b : ℕ) → b < 64 → T (hasb b left) → Passes g s p left waiting b → T (hasb b (readyVisits down left waiting))
+  pub at-ready : (b : ℕ) → b < 64 → T (hasb b left) → Passes g s p left waiting b → T (hasb b (readyVisits left (common wanted waiting)))
   unfolding readyVisits
   at-ready b h t w = subst⁻¹ (λ (x : Bool). T x) (hasb-collect 64 b _ h) (and-intro _ _ t (passing b h t w))

@@ -1,188 +1,130 @@
--- The visits that are ready, as the code finds them, child by child: the lowest that is left is the next one of its child, and all others of the
--- child are passed over with it. Assumes nothing.
-use Prim.Native.Nat.{ℕ, _+_, _*_, _-_, _/_, _%_, _^_, _<_}
-use mathlib.Core.Path.{_≡_, _∙_, ap, subst, subst⁻¹}
+-- The lowest visit that is ready, as the code finds it, child by child: the lowest that is left is the next one of its child, and where it is not
+-- ready none of the child's is. Assumes nothing.
+use Prim.Native.Nat.{ℕ, _+_, _*_, _/_, _%_, _<_}
+use mathlib.Core.Path.{_≡_, sym, _∙_, ap, subst, subst⁻¹}
 use mathlib.Core.Logic.{_⊎_, inl, inr, ⊎-elim}
-use mathlib.Core.Bool.{Bool, cond, not}
-use mathlib.Core.List.{List}
+use mathlib.Core.Bool.{Bool, not}
 use native.Mathlib.Omega.{arith}
-use lib.Dec.{T, eqb, T-not, not-T}
-use lib.ListN.{getD}
-use Rattle.basics.proofs.TestLaws.{
-  and-intro,
-  and-left,
-  and-right,
-  tested,
-  same-test,
-  same-or-not,
-  below-or-not,
-  true-T,
-  chosen,
-  passed-over,
-}
-use Rattle.bits.specs.Bit.{hasb, insert, common, minus, raised, First}
-use Rattle.bits.proofs.BitLaws.{bit-below, bit-has}
-use Rattle.bits.proofs.SetLaws.{insert-lt}
-use Rattle.bits.proofs.ShiftLaws.{has-raised, raised-low}
+use lib.Dec.{T, eqb→eq, T-not, not-T}
+use Rattle.basics.proofs.TestLaws.{and-intro, and-left, and-right, tested, same-or-not, below-or-not, eq-T, T-true, true-T}
+use Rattle.bits.specs.Bit.{bit, hasb, lowest, common, minus, raised, First}
+use Rattle.bits.proofs.BitLaws.{bit-cases, bit-has, has-bit}
+use Rattle.bits.proofs.LowestLaws.{lowest-is, lowest-unique}
 use Rattle.bits.proofs.CollectLaws.{collect-lt}
-use Rattle.bits.proofs.MemberLaws.{
-  hasb-collect,
-  hasb-below,
-  hasb-ext,
-  none-left,
-  insert-cases,
-  insert-new,
-  insert-old,
-  both-common,
-  minus-both,
-  both-minus,
-}
+use Rattle.bits.proofs.MemberLaws.{hasb-collect, hasb-below, none-left, both-common, minus-both, both-minus}
 use Rattle.remaining.specs.RuleSets.{visitReady, readyVisits}
-use Rattle.remaining.proofs.MaskLaws.{next-of, of-next}
+use Rattle.remaining.proofs.MaskLaws.{next-of, of-next, in-child, child-in}
 use Rattle.remaining.proofs.MemberWalks.{first-member, under-first}
 
-pub in-child : (i k : ℕ) → T (hasb k (raised (8 * i) 255)) → k / 8 ≡ i
-in-child i k t =
-    ⊎-elim (λ l. absurd (subst (λ (b : Bool). T b) (raised-low (8 * i) k 255 l) t))
-    (λ l.
-    let h : k - 8 * i < 8 = hasb-below 8 (k - 8 * i) 255 (omega arith) (subst (λ (b : Bool). T b) (has-raised (8 * i) k 255 l) t) in
-    omega arith)
-    (below-or-not k (8 * i))
+no-bit : (k s : ℕ) → (T (hasb k s) → ⊥) → bit k s ≡ 0
+no-bit k s n = ⊎-elim (λ z. z) (λ o. absurd (n (true-T _ (bit-has k s o)))) (bit-cases k s)
 
-pub child-in : (i k : ℕ) → k / 8 ≡ i → T (hasb k (raised (8 * i) 255))
-child-in i k e =
-    subst⁻¹ (λ (b : Bool). T b) (has-raised (8 * i) k 255 (omega arith))
-    (true-T _ (bit-has (k - 8 * i) 255 (bit-below 8 (k - 8 * i) (omega arith))))
+module _ (visits₀ lacking : ℕ) where
+  in-ready : (b : ℕ) → T (hasb b (readyVisits visits₀ lacking)) → (b < 64) × T (hasb b visits₀) × T (visitReady visits₀ lacking b)
+  unfolding readyVisits
+  in-ready b t =
+      let h : b < 64 = hasb-below 64 b (readyVisits visits₀ lacking) (collect-lt 64 _) t in
+      let u = subst (λ (x : Bool). T x) (hasb-collect 64 b _ h) t in
+      (h, and-left _ _ u, and-right _ _ u)
 
-module _ (down : List ℕ) (visits₀ waiting : ℕ) where
-  -- of the children that are no longer left, those visits are found that are ready
-  pub record Gathering (left ready : ℕ) : Type 0 where
-    pub small : ready < 2 ^ 64
+  -- of the children that are no longer left no visit is ready
+  pub record Looking (left : ℕ) : Type 0 where
     pub within : (b : ℕ) → T (hasb b left) → T (hasb b visits₀)
     pub whole : (b k : ℕ) → b / 8 ≡ k / 8 → T (hasb b left) → T (hasb k visits₀) → T (hasb k left)
-    pub found : (b : ℕ) → T (hasb b ready) → T (hasb b visits₀) × T (not (hasb b left)) × T (visitReady down visits₀ waiting b)
-    pub all : (b : ℕ) → T (hasb b visits₀) → T (not (hasb b left)) → T (visitReady down visits₀ waiting b) → T (hasb b ready)
+    pub none : (b : ℕ) → T (hasb b visits₀) → T (not (hasb b left)) → T (visitReady visits₀ lacking b) → ⊥
 
-  pub gathering-start : Gathering visits₀ 0
-  gathering-start =
-      record {
-        small = omega arith;
-        within = λ b t. t;
-        whole = λ b k e t u. u;
-        found = λ b t. absurd (T-not (hasb b 0) (none-left b) t);
-        all = λ b t n u. absurd (T-not (hasb b visits₀) n t);
-      }
+  pub looking-start : Looking visits₀
+  looking-start = record { within = λ b t. t; whole = λ b k e t u. u; none = λ b t n u. T-not (hasb b visits₀) n t }
 
-  -- the lowest that is left is the next of its child, and all of the child's are done with it
-  module _ (left ready b : ℕ) (w : Gathering left ready) (f : First left b) where
-    abbrev test : Bool
-    test = eqb (common (getD down b 0) waiting) 0
+  -- the lowest that is left is the next of its child
+  module _ (left b : ℕ) (w : Looking left) (f : First left b) where
+    -- a visit of the same child that is ready is this one
+    same-child : (k : ℕ) → k / 8 ≡ b / 8 → T (hasb k left) → T (visitReady visits₀ lacking k) → k ≡ b
+    unfolding visitReady
+    same-child k e t u =
+        ⊎-elim (λ q. q)
+        (λ n.
+        ⊎-elim (λ l. absurd (under-first left b k f l t))
+        (λ l.
+        let z : b ≡ 8 * (k / 8) + b % 8 = omega arith in
+        absurd (next-of visits₀ k (and-left _ _ u) (b % 8) (omega (arith, n))
+        (subst (λ (y : ℕ). T (hasb y visits₀)) z (w .within b (first-member left b f)))))
+        (below-or-not k b))
+        (same-or-not k b)
 
-    abbrev rest : ℕ
-    rest = minus left (raised (8 * (b / 8)) 255)
-
-    left-out : (k : ℕ) → T (not (hasb k rest)) → (k / 8 ≡ b / 8) ⊎ T (not (hasb k left))
+    -- what is no longer left after it was left out is of its child, or was not left
+    left-out : (k : ℕ) → T (not (hasb k (minus left (raised (8 * (b / 8)) 255)))) → (k / 8 ≡ b / 8) ⊎ T (not (hasb k left))
     left-out k n =
         ⊎-elim
         (λ t.
         ⊎-elim (λ u. inl (in-child (b / 8) k u))
-        (λ u. absurd (T-not (hasb k rest) n (both-minus k left (raised (8 * (b / 8)) 255) t u))) (tested (hasb k (raised (8 * (b / 8)) 255))))
+        (λ u. absurd (T-not (hasb k (minus left (raised (8 * (b / 8)) 255))) n (both-minus k left (raised (8 * (b / 8)) 255) t u)))
+        (tested (hasb k (raised (8 * (b / 8)) 255))))
         (λ t. inr t) (tested (hasb k left))
 
-    still-out : (k : ℕ) → T (not (hasb k left)) → T (not (hasb k rest))
-    still-out k n = not-T (hasb k rest) (λ t. T-not (hasb k left) n (minus-both k left (raised (8 * (b / 8)) 255) t .0))
-
-    out : T (not (hasb b rest))
-    out =
-        not-T (hasb b rest)
-        (λ t. T-not (hasb b (raised (8 * (b / 8)) 255)) (minus-both b left (raised (8 * (b / 8)) 255) t .1) (child-in (b / 8) b (omega arith)))
-
-    ready-by : T test → T (visitReady down visits₀ waiting b)
+    turned : (common lacking (raised (8 * (b / 8)) 255) ≡ 0 → ⊥) → Looking (minus left (raised (8 * (b / 8)) 255))
     unfolding visitReady
-    ready-by t =
-        and-intro _ _
-        (of-next visits₀ b
-        (λ k l u.
-        under-first left b (8 * (b / 8) + k) f (omega arith)
-        (w .whole b (8 * (b / 8) + k) (omega arith) (first-member left b f) u))) t
-
-    by-ready : T (visitReady down visits₀ waiting b) → T test
-    unfolding visitReady
-    by-ready t = and-right _ _ t
-
-    -- a later visit of the same child is not the next
-    later : (k : ℕ) → k / 8 ≡ b / 8 → (k ≡ b → ⊥) → T (hasb k left) → T (visitReady down visits₀ waiting k) → ⊥
-    unfolding visitReady
-    later k e n t u =
-        ⊎-elim (λ l. under-first left b k f l t)
-        (λ l.
-        let z : b ≡ 8 * (k / 8) + b % 8 = omega arith in
-        next-of visits₀ k (and-left _ _ u) (b % 8) (omega (arith, n))
-        (subst (λ (y : ℕ). T (hasb y visits₀)) z (w .within b (first-member left b f))))
-        (below-or-not k b)
-
-    gathered : (next : ℕ) → next < 2 ^ 64 → ((k : ℕ) → T (hasb k next) → ((k ≡ b) × T test) ⊎ T (hasb k ready))
-        → ((k : ℕ) → T (hasb k ready) → T (hasb k next)) → (T test → T (hasb b next)) → Gathering rest next
-    gathered next small cases old new =
+    turned blocked =
         record {
-          small = small;
           within = λ k t. w .within k (minus-both k left (raised (8 * (b / 8)) 255) t .0);
           whole = λ k j e t u.
               let v = minus-both k left (raised (8 * (b / 8)) 255) t in
               both-minus j left (raised (8 * (b / 8)) 255) (w .whole k j e (v .0) u)
               (not-T (hasb j (raised (8 * (b / 8)) 255))
               (λ i. T-not (hasb k (raised (8 * (b / 8)) 255)) (v .1) (child-in (b / 8) k (e ∙ in-child (b / 8) j i))));
-          found = λ k t.
+          none = λ k t n u.
               ⊎-elim
-              (λ u.
-              subst⁻¹ (λ (y : ℕ). T (hasb y visits₀) × T (not (hasb y rest)) × T (visitReady down visits₀ waiting y)) (u .0)
-              (w .within b (first-member left b f), out, ready-by (u .1)))
-              (λ u. let v = w .found k u in (v .0, still-out k (v .1), v .2)) (cases k t);
-          all = λ k t n u.
-              ⊎-elim
-              (λ e. subst⁻¹ (λ (y : ℕ). T (hasb y next)) e (new (by-ready (subst (λ (y : ℕ). T (visitReady down visits₀ waiting y)) e u))))
-              (λ e.
-              ⊎-elim
-              (λ i. ⊎-elim (λ j. absurd (later k i e j u)) (λ j. old k (w .all k t j u)) (tested (hasb k left)))
-              (λ j. old k (w .all k t j u)) (left-out k n))
-              (same-or-not k b);
+              (λ i.
+              let j : T (hasb k left) = w .whole b k (sym i) (first-member left b f) t in
+              blocked (eqb→eq _ _ (and-right _ _ (subst (λ (y : ℕ). T (visitReady visits₀ lacking y)) (same-child k i j u) u))))
+              (λ i. w .none k t i u) (left-out k n);
         }
 
-    turned : Gathering rest (cond test (insert b ready) ready)
-    turned =
-        ⊎-elim
-        (λ t.
-        subst⁻¹ (Gathering rest) (chosen test (insert b ready) ready t)
-        (gathered (insert b ready) (insert-lt 64 b ready (f .small) (w .small))
-        (λ k u. ⊎-elim (λ e. inl (e, t)) (λ i. inr i) (insert-cases k b ready u)) (λ k u. insert-old k b ready u) (λ u. insert-new b ready)))
-        (λ t.
-        subst⁻¹ (Gathering rest) (passed-over test (insert b ready) ready t)
-        (gathered ready (w .small) (λ k u. inr u) (λ k u. u) (λ u. absurd (T-not test t u))))
-        (tested test)
+    found : common lacking (raised (8 * (b / 8)) 255) ≡ 0 → T (hasb b (readyVisits visits₀ lacking))
+    unfolding readyVisits visitReady
+    found e =
+        subst⁻¹ (λ (x : Bool). T x) (hasb-collect 64 b _ (f .small))
+        (and-intro _ _ (w .within b (first-member left b f))
+        (and-intro _ _
+        (of-next visits₀ b
+        (λ k l u.
+        under-first left b (8 * (b / 8) + k) f (omega arith)
+        (w .whole b (8 * (b / 8) + k) (omega arith) (first-member left b f) u)))
+        (eq-T _ _ e)))
 
-  pub gathering-turn : (left ready b both next part rest : ℕ) → Gathering left ready → First left b → both ≡ common (getD down b 0) waiting
-      → next ≡ cond (eqb both 0) (insert b ready) ready → part ≡ raised (8 * (b / 8)) 255 → rest ≡ minus left part → Gathering rest next
-  gathering-turn left ready b both next part rest w f e n q m =
-      subst⁻¹ (λ (x : ℕ). Gathering x next) (m ∙ ap (minus left) q)
-      (subst⁻¹ (λ (x : ℕ). Gathering (minus left (raised (8 * (b / 8)) 255)) x)
-      (n ∙ ap (λ (x : ℕ). cond (eqb x 0) (insert b ready) ready) e) (turned left ready b w f))
+  pub looking-turn : (left b child both rest : ℕ) → Looking left → First left b → child ≡ raised (8 * (b / 8)) 255 → both ≡ common lacking child
+      → (both ≡ 0 → ⊥) → rest ≡ minus left child → Looking rest
+  looking-turn left b child both rest w f q e n m =
+      subst⁻¹ Looking (m ∙ ap (minus left) q) (turned left b w f (λ z. n (e ∙ (ap (common lacking) q ∙ z))))
 
-  pub gathering-finish : (left ready : ℕ) → Gathering left ready → left ≡ 0 → ready ≡ readyVisits down visits₀ waiting
-  unfolding readyVisits
-  gathering-finish left ready w e =
-      hasb-ext 64 ready (readyVisits down visits₀ waiting) (w .small) (collect-lt 64 _)
-      (λ b h.
-      same-test (hasb b ready) (hasb b (readyVisits down visits₀ waiting))
-      (λ t.
-      let v = w .found b t in
-      subst⁻¹ (λ (x : Bool). T x) (hasb-collect 64 b _ h) (and-intro _ _ (v .0) (v .2)))
-      (λ t.
-      let v = subst (λ (x : Bool). T x) (hasb-collect 64 b _ h) t in
-      w .all b (and-left _ _ v) (subst⁻¹ (λ (x : ℕ). T (not (hasb b x))) e (none-left b)) (and-right _ _ v)))
+  pub looking-found : (left b child both : ℕ) → Looking left → First left b → child ≡ raised (8 * (b / 8)) 255 → both ≡ common lacking child
+      → both ≡ 0 → b ≡ lowest 64 (readyVisits visits₀ lacking)
+  looking-found left b child both w f q e z =
+      lowest-unique 64 (readyVisits visits₀ lacking) b (lowest 64 (readyVisits visits₀ lacking))
+      (record {
+        within = omega (arith, f .small);
+        member = λ h. has-bit b _ (T-true _ (found left b w f (sym (ap (common lacking) q) ∙ (sym e ∙ z))));
+        free = λ k l. no-bit k (readyVisits visits₀ lacking)
+            (λ t.
+            let u = in-ready k t in
+            ⊎-elim (λ i. under-first left b k f l i) (λ i. w .none k (u .1) i (u .2)) (tested (hasb k left)));
+      })
+      (lowest-is 64 (readyVisits visits₀ lacking))
 
-pub gathering-less : (left b part rest : ℕ) → First left b → part ≡ raised (8 * (b / 8)) 255 → rest ≡ minus left part → rest < left
+  pub looking-end : (left : ℕ) → Looking left → left ≡ 0 → 64 ≡ lowest 64 (readyVisits visits₀ lacking)
+  looking-end left w e =
+      lowest-unique 64 (readyVisits visits₀ lacking) 64 (lowest 64 (readyVisits visits₀ lacking))
+      (record {
+        within = omega arith;
+        member = λ h. absurd (omega arith);
+        free = λ k l. no-bit k (readyVisits visits₀ lacking)
+            (λ t. let u = in-ready k t in w .none k (u .1) (subst⁻¹ (λ (x : ℕ). T (not (hasb k x))) e (none-left k)) (u .2));
+      })
+      (lowest-is 64 (readyVisits visits₀ lacking))
+
+pub looking-less : (left b part rest : ℕ) → First left b → part ≡ raised (8 * (b / 8)) 255 → rest ≡ minus left part → rest < left
 unfolding minus
-gathering-less left b part rest f q m =
+looking-less left b part rest f q m =
     let some : 0 < common left part =
     ⊎-elim (λ h. h)
     (λ h.

@@ -19,9 +19,10 @@ unfoldable pub remaining : (ℕ → Bool) → List ℕ
 remaining left = passing actionNumbers left
 
 -- an action and what is left after it, as numbers that a function answers and what they are
-pub record Done (action computes visits leaves waiting : ℕ) (a c v l w : ℕ) : Type 0 where
+pub record Done (action computes visits leaves waiting wanted : ℕ) (a c v l w d : ℕ) : Type 0 where
   pub actionIs : action ≡ a
   pub computesAre : computes ≡ c
   pub visitsAre : visits ≡ v
   pub leavesAre : leaves ≡ l
   pub waitingAre : waiting ≡ w
+  pub wantedAre : wanted ≡ d

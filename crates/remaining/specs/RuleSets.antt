@@ -8,7 +8,7 @@ use mathlib.Core.List.{List}
 use lib.Dec.{T, ltb, leb, eqb}
 use Rattle.basics.specs.Tests.{_and_, _or_}
 use Rattle.basics.specs.Lists.{word}
-use Rattle.bits.specs.Bit.{hasb, collect, remove, below, raised, field, common, minus, lowest}
+use Rattle.bits.specs.Bit.{hasb, collect, remove, below, union, raised, field, common, minus, lowest}
 use Rattle.grammar.specs.Limits.{mostSymbols}
 use Rattle.grammar.specs.Table.{symbols, attributes, nonterminal, lengthAt, position, attribute}
 use Rattle.access.specs.ByPlace.{symbolFrom, definingsAt}
@@ -46,19 +46,19 @@ synthesizedMask by x n = field (8 * n) (word by (mostSymbols + x))
 unfoldable pub visitsIn : List ℕ → ℕ → ℕ
 visitsIn by x = word by (2 * mostSymbols + x)
 
--- b is visit b % 8 + 1 of a nonterminal child, and o the occurrence of a nonterminal, in the rule at word p
-unfoldable pub visitFrom : List ℕ → List ℕ → ℕ → ℕ → Bool
-visitFrom g by p b =
-    (leb 1 (b / 8) and leb (b / 8) (lengthAt g p)) and hasb (b % 8) (visitsIn by (symbolFrom g p (b / 8)))
+-- b / 8 is a child of the rule at word p, and b % 8 a member of the word that the table has for it from one word on; and all such b
+unfoldable pub childIn : List ℕ → List ℕ → ℕ → ℕ → ℕ → Bool
+childIn g by p from b =
+    (leb 1 (b / 8) and leb (b / 8) (lengthAt g p)) and hasb (b % 8) (word by (from + symbolFrom g p (b / 8)))
 
+unfoldable pub childrenIn : List ℕ → List ℕ → ℕ → ℕ → ℕ
+childrenIn g by p from = collect 64 (λ b. childIn g by p from b)
+
+-- o is the occurrence of a nonterminal in the rule at word p; and all such o
 unfoldable pub madeFrom : List ℕ → ℕ → ℕ → Bool
 madeFrom g p o =
     let x = symbolFrom g p (position o) in
     leb (position o) (lengthAt g p) and (nonterminal g x and ltb (attribute o) (attributes g x))
-
--- all of them as sets
-unfoldable pub visitsFrom : List ℕ → List ℕ → ℕ → ℕ
-visitsFrom g by p = collect 64 (λ b. visitFrom g by p b)
 
 unfoldable pub occurrencesFrom : List ℕ → ℕ → ℕ
 occurrencesFrom g p = collect 64 (λ o. madeFrom g p o)
@@ -67,17 +67,18 @@ occurrencesFrom g p = collect 64 (λ o. madeFrom g p o)
 abbrev pub FewVisits : List ℕ → Type 0
 FewVisits s = (x : ℕ) → visits s x ≤ 5
 
--- the table has the symbols of the rule at word p, and their visits fit eight bits
-pub record Tabled (g by : List ℕ) (p : ℕ) : Type 0 where
-  pub low : (i : ℕ) → i ≤ lengthAt g p → symbolFrom g p i < mostSymbols
-  pub small : (i : ℕ) → i ≤ lengthAt g p → visitsIn by (symbolFrom g p i) < 256
+-- the table has the symbols of the rule at word p
+abbrev pub Tabled : List ℕ → ℕ → Type 0
+Tabled g p = (i : ℕ) → i ≤ lengthAt g p → symbolFrom g p i < mostSymbols
 
--- Before the first action all are left, and what waits are the occurrences of nonterminals but for the left side's inherited ones of visit 1.
-pub record Started (g by : List ℕ) (p computes left leaves waiting : ℕ) : Type 0 where
+-- Before the first action all are left, what waits are the occurrences of nonterminals but for the left side's inherited ones of visit 1, and
+-- the first visits want what they take along.
+pub record Started (g by : List ℕ) (p computes left leaves waiting wanted : ℕ) : Type 0 where
   pub computesAre : computes ≡ definingsAt g p
-  pub visitsAre : left ≡ collect 64 (λ b. visitFrom g by p b)
+  pub visitsAre : left ≡ childrenIn g by p (2 * mostSymbols)
   pub leavesAre : leaves ≡ visitsIn by (symbolFrom g p 0)
   pub waitingAre : waiting ≡ minus (collect 64 (λ o. madeFrom g p o)) (inheritedMask by (symbolFrom g p 0) 0)
+  pub wantedAre : wanted ≡ childrenIn g by p 0
 
 -- what visit b of the rule at word p makes available, and what leave b does
 unfoldable pub handedUp : List ℕ → List ℕ → ℕ → ℕ → ℕ
@@ -86,28 +87,34 @@ handedUp g by p b = raised (8 * (b / 8)) (synthesizedMask by (symbolFrom g p (b 
 unfoldable pub handedDown : List ℕ → List ℕ → ℕ → ℕ → ℕ
 handedDown g by p b = inheritedMask by (symbolFrom g p 0) (b + 1)
 
--- the members of a set of visits are visits of symbols of the grammar, and those of a set of leaves are few
-abbrev pub Children : List ℕ → ℕ → ℕ → Type 0
-Children g p left = (b : ℕ) → b < 64 → T (hasb b left) → symbolFrom g p (b / 8) < mostSymbols
+-- what is wanted after visit b: its child's next visit takes along its own
+unfoldable pub wantedNext : List ℕ → List ℕ → ℕ → ℕ → ℕ → ℕ
+wantedNext g by p b wanted =
+    union (minus wanted (raised (8 * (b / 8)) 255)) (raised (8 * (b / 8)) (inheritedMask by (symbolFrom g p (b / 8)) (b % 8 + 1)))
 
+-- leaves are few
 abbrev pub FewLeaves : ℕ → Type 0
 FewLeaves left = (b : ℕ) → T (hasb b left) → b < 7
 
--- what visit b takes along, and a table of it for the visits that are left
-unfoldable pub takenAlong : List ℕ → List ℕ → ℕ → ℕ → ℕ
-takenAlong g by p b = raised (8 * (b / 8)) (inheritedMask by (symbolFrom g p (b / 8)) (b % 8))
+-- visit b is the next one of its child
+abbrev pub NextVisit : ℕ → ℕ → Type 0
+NextVisit left b = (k : ℕ) → k < b % 8 → T (hasb (8 * (b / 8) + k) left) → ⊥
 
-pub record Along (g by : List ℕ) (p left : ℕ) (down : List ℕ) : Type 0 where
-  pub is : (b : ℕ) → b < 64 → T (hasb b left) → word down b ≡ takenAlong g by p b
+-- at each child is wanted what its next visit takes along
+pub record Along (g by : List ℕ) (p left wanted : ℕ) : Type 0 where
+  pub takes : (b o : ℕ) → b < 64 → T (hasb b left) → NextVisit left b → o / 8 ≡ b / 8 → T (hasb o wanted)
+      → T (hasb (o % 8) (inheritedMask by (symbolFrom g p (b / 8)) (b % 8)))
+  pub taken : (b o : ℕ) → b < 64 → T (hasb b left) → NextVisit left b → o / 8 ≡ b / 8
+      → T (hasb (o % 8) (inheritedMask by (symbolFrom g p (b / 8)) (b % 8))) → T (hasb o wanted)
 
--- Visit b is ready, by the visits that are left and the occurrences that wait: it is the lowest of its child, and nothing that it takes along
--- waits.
-unfoldable pub visitReady : List ℕ → ℕ → ℕ → ℕ → Bool
-visitReady down left waiting b = leb (b % 8) (lowest 64 (field (8 * (b / 8)) left)) and eqb (common (word down b) waiting) 0
+-- Visit b is ready, by the visits that are left and the wanted occurrences that wait: it is the lowest of its child, and nothing that it takes
+-- along waits.
+unfoldable pub visitReady : ℕ → ℕ → ℕ → Bool
+visitReady left lacking b = leb (b % 8) (lowest 64 (field (8 * (b / 8)) left)) and eqb (common lacking (raised (8 * (b / 8)) 255)) 0
 
 -- the visits that are ready
-unfoldable pub readyVisits : List ℕ → ℕ → ℕ → ℕ
-readyVisits down left waiting = collect 64 (λ b. hasb b left and visitReady down left waiting b)
+unfoldable pub readyVisits : ℕ → ℕ → ℕ
+readyVisits left lacking = collect 64 (λ b. hasb b left and visitReady left lacking b)
 
 -- "the last leave follows everything", another "the computes of the synthesized attributes of visit n": by those of them that wait, the later
 -- leaves and the other actions

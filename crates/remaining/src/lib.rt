@@ -1,6 +1,5 @@
 // What is left of one rule's visit-sequence (000, section 6.3), whoever orders its actions: what is left before the first action, which
 // visit is ready, and what is left after an action. Three sets hold the actions, a fourth the occurrences that wait to be made available.
-use grammar::ROWS;
 ghost use mathlib.Core.Path.{_≡_};
 ghost use Prim.Native.Nat.{_+_, _*_, _-_, _/_, _%_, _≤_, _<_, max};
 ghost use Rattle.bits.specs.Bit as bit;
@@ -16,12 +15,13 @@ ghost use Rattle.remaining.specs.Remaining as spec;
 pub type ByVisit = [u64; 96];
 
 // The actions that are left, as bits: a compute by its occurrence, visit n of child i as 8i + (n - 1), leave n as n - 1.
-// An occurrence waits while an action that makes it available is left.
+// An occurrence waits while an action that makes it available is left; wanted is what the next visit of each child takes along.
 pub struct State {
     pub computes: u64,
     pub visits: u64,
     pub leaves: u64,
     pub waiting: u64,
+    pub wanted: u64,
 }
 
 // An action, and what is left after it.
@@ -128,20 +128,21 @@ fn visits_in(by: &ByVisit, x: usize) -> u64
     by[64 + x]
 }
 
-// The visits of all children of the rule at word p.
-fn all_visits(words: &[u16], p: usize, by: &ByVisit) -> u64
-    requires { ⌜ p < 65536 ⌝ }
+// The lowest eight bits of the words that the table has from one on for the children of the rule at word p: their visits from word 64
+// on, what their first visits take along from word 0 on.
+fn of_children(words: &[u16], p: usize, by: &ByVisit, from: usize) -> u64
+    requires { ⌜ (p < 65536) × (from ≤ 64) ⌝ }
     requires { ⌜ places.Shaped (now words) p ⌝ }
-    requires { ⌜ masks.Tabled (now words) (now by) p ⌝ }
-    ensures { λ r. ⌜ r ≡ masks.visitsFrom (now (words .entry)) (now (by .entry)) p ⌝ }
+    requires { ⌜ masks.Tabled (now words) p ⌝ }
+    ensures { λ r. ⌜ r ≡ masks.childrenIn (now (words .entry)) (now (by .entry)) p from ⌝ }
 {
     let n = access::right_length(words, p);
-    let mut visits = 0;
+    let mut found = 0;
     for i in 0..n {
-        let child = visits_in(by, access::symbol_of(words, p, i + 1));
-        visits = bits::union(bits::raised(child, 8 * (i + 1)), visits);
+        let child = bits::field(by[from + access::symbol_of(words, p, i + 1)], 0);
+        found = bits::union(bits::raised(child, 8 * (i + 1)), found);
     }
-    visits
+    found
 }
 
 // The attributes of a nonterminal; those of a terminal are always available.
@@ -175,48 +176,33 @@ fn made_occurrences(words: &[u16], p: usize) -> u64
 pub fn start(words: &[u16], p: usize, by: &ByVisit) -> State
     requires { ⌜ p < 65536 ⌝ }
     requires { ⌜ places.Shaped (now words) p ⌝ }
-    requires { ⌜ masks.Tabled (now words) (now by) p ⌝ }
-    ensures { λ r. ⌜ masks.Started (now (words .entry)) (now (by .entry)) p (r .computes) (r .visits) (r .leaves) (r .waiting) ⌝ }
+    requires { ⌜ masks.Tabled (now words) p ⌝ }
+    ensures { λ r. ⌜ masks.Started (now (words .entry)) (now (by .entry)) p (r .computes) (r .visits) (r .leaves) (r .waiting) (r .wanted) ⌝ }
 {
     let left = access::symbol_of(words, p, 0);
     State {
         computes: access::defining_set(words, p),
-        visits: all_visits(words, p, by),
+        visits: of_children(words, p, by, 64),
         leaves: visits_in(by, left),
         waiting: bits::minus(made_occurrences(words, p), inherited_of(by, left, 0)),
+        wanted: of_children(words, p, by, 0),
     }
 }
 
-// What each of the visits takes along, found once a rule: the child's inherited attributes of that visit.
-pub fn taken_along(words: &[u16], p: usize, by: &ByVisit, visits: u64) -> [u64; ROWS]
-    requires { ⌜ p < 65536 ⌝ }
-    requires { ⌜ masks.Children (now words) p visits ⌝ }
-    ensures { λ down. ⌜ masks.Along (now (words .entry)) (now (by .entry)) p visits down ⌝ }
+// The lowest visit that is ready, or 64 where none is: the next one of its child, where nothing is lacking that it takes along.
+pub fn ready_visit(visits: u64, lacking: u64) -> usize
+    ensures { λ r. ⌜ r ≡ bit.lowest 64 (masks.readyVisits visits lacking) ⌝ }
 {
-    let mut down = [0u64; ROWS];
     let mut left = visits;
     while left != 0 {
         let b = bits::first(left);
-        let i = b / 8;
-        let mask = inherited_of(by, access::symbol_of(words, p, i), b % 8);
-        down[b] = bits::raised(mask, 8 * i);
-        left = bits::rest(left);
+        let child = bits::raised(255, 8 * (b / 8));
+        if bits::common(lacking, child) == 0 {
+            return b;
+        }
+        left = bits::minus(left, child);
     }
-    down
-}
-
-// The visits that are ready: the next one of each child, where nothing that it takes along waits.
-pub fn ready_visits(down: &[u64; ROWS], visits: u64, waiting: u64) -> u64
-    ensures { λ r. ⌜ r ≡ masks.readyVisits (now (down .entry)) visits waiting ⌝ }
-{
-    let mut left = visits;
-    let mut ready = 0;
-    while left != 0 {
-        let b = bits::first(left);
-        ready = bits::put(ready, b, bits::common(down[b], waiting) == 0);
-        left = bits::minus(left, bits::raised(255, 8 * (b / 8)));
-    }
-    ready
+    64
 }
 
 // The leaves that are ready. Only the next one can be: the last one where nothing else is left, another where nothing that it hands up waits.
@@ -239,7 +225,7 @@ pub fn ready_leaves(words: &[u16], p: usize, by: &ByVisit, state: State) -> u64
 // Compute occurrence o.
 pub fn compute(state: State, o: usize) -> Step
     requires { ⌜ o < 64 ⌝ }
-    ensures { λ s. ⌜ spec.Done (s .action) (s .state .computes) (s .state .visits) (s .state .leaves) (s .state .waiting) o (bit.remove o (state .computes)) (state .visits) (state .leaves) (bit.remove o (state .waiting)) ⌝ }
+    ensures { λ s. ⌜ spec.Done (s .action) (s .state .computes) (s .state .visits) (s .state .leaves) (s .state .waiting) (s .state .wanted) o (bit.remove o (state .computes)) (state .visits) (state .leaves) (bit.remove o (state .waiting)) (state .wanted) ⌝ }
 {
     Step {
         action: o,
@@ -248,18 +234,23 @@ pub fn compute(state: State, o: usize) -> Step
             visits: state.visits,
             leaves: state.leaves,
             waiting: bits::without(state.waiting, o),
+            wanted: state.wanted,
         },
     }
 }
 
-// Visit b of a child: its synthesized attributes of that visit are available then.
+// Visit b of a child: its synthesized attributes of that visit are available then, and its next visit takes along those inherited ones that
+// belong to it.
 pub fn visit(words: &[u16], p: usize, by: &ByVisit, state: State, b: usize) -> Step
-    requires { ⌜ (p < 65536) × (b < 64) ⌝ }
+    requires { ⌜ (p < 65536) × ((b < 64) × (b % 8 < 7)) ⌝ }
     requires { ⌜ places.symbolFrom (now words) p (b / 8) < limits.mostSymbols ⌝ }
-    ensures { λ s. ⌜ spec.Done (s .action) (s .state .computes) (s .state .visits) (s .state .leaves) (s .state .waiting) (64 + b) (state .computes) (bit.remove b (state .visits)) (state .leaves) (bit.minus (state .waiting) (masks.handedUp (now (words .entry)) (now (by .entry)) p b)) ⌝ }
+    ensures { λ s. ⌜ spec.Done (s .action) (s .state .computes) (s .state .visits) (s .state .leaves) (s .state .waiting) (s .state .wanted) (64 + b) (state .computes) (bit.remove b (state .visits)) (state .leaves) (bit.minus (state .waiting) (masks.handedUp (now (words .entry)) (now (by .entry)) p b)) (masks.wantedNext (now (words .entry)) (now (by .entry)) p b (state .wanted)) ⌝ }
 {
     let i = b / 8;
-    let up = synthesized_of(by, access::symbol_of(words, p, i), b % 8);
+    let x = access::symbol_of(words, p, i);
+    let up = synthesized_of(by, x, b % 8);
+    let down = inherited_of(by, x, b % 8 + 1);
+    let others = bits::minus(state.wanted, bits::raised(255, 8 * i));
     Step {
         action: 64 + b,
         state: State {
@@ -267,6 +258,7 @@ pub fn visit(words: &[u16], p: usize, by: &ByVisit, state: State, b: usize) -> S
             visits: bits::without(state.visits, b),
             leaves: state.leaves,
             waiting: bits::minus(state.waiting, bits::raised(up, 8 * i)),
+            wanted: bits::union(others, bits::raised(down, 8 * i)),
         },
     }
 }
@@ -275,7 +267,7 @@ pub fn visit(words: &[u16], p: usize, by: &ByVisit, state: State, b: usize) -> S
 pub fn leave(words: &[u16], p: usize, by: &ByVisit, state: State, b: usize) -> Step
     requires { ⌜ (p < 65536) × (b < 7) ⌝ }
     requires { ⌜ places.symbolFrom (now words) p 0 < limits.mostSymbols ⌝ }
-    ensures { λ s. ⌜ spec.Done (s .action) (s .state .computes) (s .state .visits) (s .state .leaves) (s .state .waiting) (128 + b) (state .computes) (state .visits) (bit.remove b (state .leaves)) (bit.minus (state .waiting) (masks.handedDown (now (words .entry)) (now (by .entry)) p b)) ⌝ }
+    ensures { λ s. ⌜ spec.Done (s .action) (s .state .computes) (s .state .visits) (s .state .leaves) (s .state .waiting) (s .state .wanted) (128 + b) (state .computes) (state .visits) (bit.remove b (state .leaves)) (bit.minus (state .waiting) (masks.handedDown (now (words .entry)) (now (by .entry)) p b)) (state .wanted) ⌝ }
 {
     let down = inherited_of(by, access::symbol_of(words, p, 0), b + 1);
     Step {
@@ -285,6 +277,7 @@ pub fn leave(words: &[u16], p: usize, by: &ByVisit, state: State, b: usize) -> S
             visits: state.visits,
             leaves: bits::without(state.leaves, b),
             waiting: bits::minus(state.waiting, down),
+            wanted: state.wanted,
         },
     }
 }

@@ -36,7 +36,6 @@ use Rattle.sequencing.proofs.ReadyComputes.{waits-attribute}
 use Rattle.sequencing.proofs.ReadyComputes.{Free}
 use Rattle.remaining.specs.RuleSets.{visitsIn, symbolVisits, Tabled}
 use Rattle.remaining.proofs.MaskLaws.{Seen, seen-symbol}
-use Rattle.remaining.proofs.BlockSetLaws.{visits-small}
 use Rattle.remaining.proofs.RemainsLaws.{remains-compute, remains-visit, remains-leave}
 
 -- no action that is left goes before a
@@ -109,14 +108,8 @@ module _ (g s by rows : List ℕ) (p r : ℕ) where
   pub left-low : RuleGiven g s by rows p r → symbolFrom g p 0 < mostSymbols
   left-low given = symbol-low g s by rows p r given 0 (omega arith)
 
-  pub tabled-given : RuleGiven g s by rows p r → Tabled g by p
-  tabled-given given =
-      record {
-        low = λ i h. symbol-low g s by rows p r given i (omega (arith, length-is g s by rows p r given));
-        small = λ i h.
-            subst⁻¹ (λ (y : ℕ). y < 256) (visits-in g s by rows p r given i (omega (arith, length-is g s by rows p r given)))
-            (visits-small g (symbolFrom g p i) (visits s (symbolFrom g p i)) (five-visits g s by rows p r given (symbolFrom g p i)));
-      }
+  pub tabled-given : RuleGiven g s by rows p r → Tabled g p
+  tabled-given given i h = symbol-low g s by rows p r given i (omega (arith, length-is g s by rows p r given))
 
   pub rows-room : RuleGiven g s by rows p r → rowWords r + mostOccurrences ≤ length rows
   rows-room given = omega (arith, given .room, given .counts)

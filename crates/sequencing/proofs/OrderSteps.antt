@@ -152,6 +152,5 @@ module _ (g ids s : List ℕ) (r : ℕ) (before : ℕ → Bool) (w : ℕ) (going
         number = action-below g s r a (going .actions a there);
         next = takes-first (λ a b. follows g ids s r a b) before left a (λ b t. action-below g s r b (going .actions b t)) there free lowest less;
         fewer = takes-one (λ a b. follows g ids s r a b) before left a (λ b t. action-below g s r b (going .actions b t)) there free lowest less;
-        within = was;
         going = goes-on;
       }

@@ -58,7 +58,7 @@ pub record VisitReady (g ids s : List ℕ) (r : ℕ) (left : ℕ → Bool) (w i 
 module _ (g ids s : List ℕ) (r : ℕ) (h : Orderly g ids s r) (five : (x : ℕ) → visits s x ≤ 5) (left : ℕ → Bool) (w : ℕ)
     (going : Going g ids s r left w) where
   -- visits of a child that are left are left with all later ones
-  later-visits : (i m n : ℕ) → 1 ≤ m → m ≤ n → ChildVisit g s r i n → T (left (numberOf (visit i m))) → T (left (numberOf (visit i n)))
+  pub later-visits : (i m n : ℕ) → 1 ≤ m → m ≤ n → ChildVisit g s r i n → T (left (numberOf (visit i m))) → T (left (numberOf (visit i n)))
   later-visits i m zero l k c t = absurd (omega arith)
   later-visits i m (suc n) l k c t =
       ⊎-elim

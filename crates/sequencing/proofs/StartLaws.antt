@@ -15,7 +15,8 @@ use Rattle.bits.proofs.BitLaws.{number-hasb}
 use Rattle.bits.proofs.CollectLaws.{collect-lt}
 use Rattle.bits.proofs.MemberLaws.{hasb-collect, hasb-below, minus-both, both-minus}
 use Rattle.basics.specs.Tests.{count}
-use Rattle.basics.proofs.TestLaws.{and-intro, and-left, and-right, same-test}
+use Rattle.basics.specs.Lists.{word}
+use Rattle.basics.proofs.TestLaws.{below-or-not, and-intro, and-left, and-right, same-test}
 use Rattle.basics.proofs.CountingLaws.{count-gap}
 use Rattle.grammar.specs.Table.{rightLength, lengthAt, symbolOf, nonterminal, attributes, occurrence, defining, position, attribute}
 use Rattle.relations.specs.Computed.{idsOf}
@@ -34,11 +35,11 @@ use Rattle.sequences.proofs.AvailableFirst.{maker}
 use Rattle.sequencing.specs.Given.{RuleGiven}
 use Rattle.remaining.specs.Remaining.{remains, remaining}
 use Rattle.sequencing.specs.Going.{Going}
-use Rattle.remaining.specs.RuleSets.{inheritedMask, visitsIn, visitFrom, madeFrom, Started}
+use Rattle.remaining.specs.RuleSets.{inheritedMask, visitsIn, childIn, childrenIn, madeFrom, NextVisit, Along, Started}
 use Rattle.sequencing.proofs.Makers.{Attribute, made-attribute, visit-even, first-unmade}
 use Rattle.sequencing.proofs.OrderSteps.{passing-same}
 use Rattle.remaining.proofs.RemainsLaws.{remains-compute, remains-visit, remains-leave, Kind, aCompute, aVisit, aLeave, kind-of}
-use Rattle.remaining.proofs.MaskLaws.{in-inherited, inherited-in}
+use Rattle.remaining.proofs.MaskLaws.{in-inherited, inherited-in, first-inherited}
 use Rattle.remaining.proofs.BlockSetLaws.{in-visits, visits-has}
 use Rattle.sequencing.proofs.GivenLaws.{orderly-rule, five-visits, seen-at, length-is, visits-in, symbol-is, set-from, visits-from}
 
@@ -60,7 +61,7 @@ count-members (suc w) s f e =
     one true = refl
     one false = refl
 
-module _ (g s by rows : List ℕ) (p r : ℕ) (given : RuleGiven g s by rows p r) (c v l w : ℕ) (started : Started g by p c v l w) where
+module _ (g s by rows : List ℕ) (p r : ℕ) (given : RuleGiven g s by rows p r) (c v l w d : ℕ) (started : Started g by p c v l w d) where
   -- the visits of a symbol of the rule, in the table
   from-visits : (i n : ℕ) → i ≤ rightLength g r → T (hasb n (visitsIn by (symbolFrom g p i)))
       → T (nonterminal g (symbolFrom g p i)) × (n < visits s (symbolFrom g p i))
@@ -78,12 +79,13 @@ module _ (g s by rows : List ℕ) (p r : ℕ) (given : RuleGiven g s by rows p r
       ∙ (ap (λ (x : ℕ). hasb o x) (started .computesAre ∙ definings-at-rule g r p (given .starts)) ∙ hasb-collect 64 o _ h)
 
   -- the visits those of the nonterminal children
-  visit-left : (b : ℕ) → b < 64 → remains c v l (64 + b) ≡ visitFrom g by p b
+  visit-left : (b : ℕ) → b < 64 → remains c v l (64 + b) ≡ childIn g by p 64 b
+  unfolding childrenIn
   visit-left b h =
       remains-visit c v l b h ∙ (ap (λ (x : ℕ). hasb b x) (started .visitsAre) ∙ hasb-collect 64 b _ h)
 
-  from-visit : (b : ℕ) → T (visitFrom g by p b) → ChildVisit g s r (b / 8) (b % 8 + 1)
-  unfolding visitFrom
+  from-visit : (b : ℕ) → T (childIn g by p 64 b) → ChildVisit g s r (b / 8) (b % 8 + 1)
+  unfolding childIn visitsIn
   from-visit b t =
       let u = and-left _ _ t in
       let i : b / 8 ≤ rightLength g r = omega (arith, leb→le (b / 8) (lengthAt g p) (and-right _ _ u), length-is g s by rows p r given) in
@@ -96,8 +98,8 @@ module _ (g s by rows : List ℕ) (p r : ℕ) (given : RuleGiven g s by rows p r
         last = omega (arith, x .1, visits-from g s by rows p r given (b / 8));
       }
 
-  visit-from : (b : ℕ) → ChildVisit g s r (b / 8) (b % 8 + 1) → T (visitFrom g by p b)
-  unfolding visitFrom
+  visit-from : (b : ℕ) → ChildVisit g s r (b / 8) (b % 8 + 1) → T (childIn g by p 64 b)
+  unfolding childIn visitsIn
   visit-from b k =
       and-intro _ _
       (and-intro _ _ (le→leb 1 (b / 8) (k .child)) (le→leb (b / 8) (lengthAt g p) (omega (arith, k .inside, length-is g s by rows p r given))))
@@ -232,6 +234,50 @@ module _ (g s by rows : List ℕ) (p r : ℕ) (given : RuleGiven g s by rows p r
           ⊎-elim (λ i. absurd (T-not (hasb o (inheritedMask by (symbolFrom g p 0) 0)) (t .1) (first-from o i)))
           (λ m. (m .0, action-left (m .0) (m .1), m .2))
           (maker g (idsOf g) s r (orderly-rule g s by rows p r given) (five-visits g s by rows p r given) o (a .occurs) (a .there))
+
+  -- the first visits want what they take along
+  first-next : (b : ℕ) → b < 64 → T (hasb b v) → NextVisit v b → b % 8 ≡ 0
+  first-next b h t lowest =
+      ⊎-elim
+      (λ i.
+      let k = from-visit b (subst (λ (x : Bool). T x) (visit-left b h) (subst⁻¹ (λ (x : Bool). T x) (remains-visit c v l b h) t)) in
+      let z : ℕ = 8 * (b / 8) + 0 in
+      let place : z / 8 ≡ b / 8 = omega arith in
+      let own : z % 8 + 1 ≡ 1 = omega arith in
+      let first : ChildVisit g s r (b / 8) 1 =
+      record {
+        child = k .child;
+        inside = k .inside;
+        nonterminalThere = k .nonterminalThere;
+        first = omega arith;
+        last = omega (arith, k .last);
+      } in
+      absurd (lowest 0 i
+      (subst (λ (x : Bool). T x) (remains-visit c v l z (omega arith))
+      (subst⁻¹ (λ (x : Bool). T x) (visit-left z (omega arith))
+      (visit-from z (subst⁻¹ (λ (j : ℕ). ChildVisit g s r j (z % 8 + 1)) place (subst⁻¹ (λ (j : ℕ). ChildVisit g s r (b / 8) j) own first)))))))
+      (λ i. omega arith) (below-or-not 0 (b % 8))
+
+  pub starts-along : Along g by p v d
+  unfolding childrenIn childIn
+  starts-along =
+      record {
+        takes = λ b o h t lowest q u.
+            let k : o < 64 = hasb-below 64 o (childrenIn g by p 0) (collect-lt 64 _) (subst (λ (x : ℕ). T (hasb o x)) (started .wantedAre) u) in
+            let z = subst (λ (x : Bool). T x) (hasb-collect 64 o _ k) (subst (λ (x : ℕ). T (hasb o x)) (started .wantedAre) u) in
+            subst⁻¹ (λ (n : ℕ). T (hasb (o % 8) (inheritedMask by (symbolFrom g p (b / 8)) n))) (first-next b h t lowest)
+            (first-inherited by (symbolFrom g p (b / 8)) (o % 8) (omega arith) .1
+            (subst (λ (j : ℕ). T (hasb (o % 8) (word by (0 + symbolFrom g p j)))) q (and-right _ _ z)));
+        taken = λ b o h t lowest q u.
+            let k = from-visit b (subst (λ (x : Bool). T x) (visit-left b h) (subst⁻¹ (λ (x : Bool). T x) (remains-visit c v l b h) t)) in
+            let z = first-inherited by (symbolFrom g p (b / 8)) (o % 8) (omega arith) .0
+            (subst (λ (n : ℕ). T (hasb (o % 8) (inheritedMask by (symbolFrom g p (b / 8)) n))) (first-next b h t lowest) u) in
+            subst⁻¹ (λ (x : ℕ). T (hasb o x)) (started .wantedAre)
+            (subst⁻¹ (λ (x : Bool). T x) (hasb-collect 64 o _ (omega arith))
+            (and-intro _ _
+            (and-intro _ _ (le→leb 1 (o / 8) (omega (arith, k .child))) (le→leb (o / 8) (lengthAt g p) (omega (arith, k .inside, length-is g s by rows p r given))))
+            (subst⁻¹ (λ (j : ℕ). T (hasb (o % 8) (word by (0 + symbolFrom g p j)))) q z)));
+      }
 
   pub starts-all : remaining (remains c v l) ≡ actionsOf g s r
   unfolding remaining actionsOf

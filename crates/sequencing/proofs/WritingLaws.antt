@@ -1,9 +1,7 @@
 -- The words of the sequence, action after action: what is written is the start of the construction, and what is left gives its rest.
 -- The block then goes into the plan word by word. Assumes nothing.
 use Prim.Native.Nat.{ℕ, suc, _+_, _-_, _≤_, _<_}
-use mathlib.Core.Path.{_≡_, refl, sym, _∙_, ap, ap₂, subst, subst⁻¹}
-use mathlib.Core.Bool.{Bool}
-use lib.Dec.{T}
+use mathlib.Core.Path.{_≡_, refl, sym, _∙_, ap, ap₂}
 use mathlib.Core.List.{List, [], _∷_, _++_, append-assoc, append-nil}
 use native.Mathlib.Omega.{arith}
 use native.Mathlib.Numerals.{add-one}
@@ -23,19 +21,17 @@ use Rattle.plans.specs.Buffers.{sequenceWords}
 use Rattle.sequencing.specs.Given.{RuleGiven, withBlock}
 use Rattle.remaining.specs.Remaining.{remains, remaining}
 use Rattle.sequencing.specs.Going.{Going, Taken}
-use Rattle.remaining.specs.RuleSets.{Children, Along, Started}
-use Rattle.remaining.proofs.RemainsLaws.{remains-visit}
+use Rattle.remaining.specs.RuleSets.{Along, Started}
 use Rattle.sequencing.proofs.GivenLaws.{five-visits}
-use Rattle.sequencing.proofs.NextLaws.{children-left}
-use Rattle.sequencing.proofs.StartLaws.{starts-going, starts-all, starts-count}
+use Rattle.sequencing.proofs.StartLaws.{starts-going, starts-along, starts-all, starts-count}
 
 module _ (g s by rows : List ℕ) (p r : ℕ) where
   pub shaped-given : RuleGiven g s by rows p r → Shaped g p
   shaped-given given = shaped-rule g r p (given .starts) (given .good) (given .counts)
 
   -- after j actions, of n
-  pub record Writing (n : ℕ) (down block : List ℕ) (c v l w j : ℕ) : Type 0 where
-    pub along : Along g by p v down
+  pub record Writing (n : ℕ) (block : List ℕ) (c v l w d j : ℕ) : Type 0 where
+    pub along : Along g by p v d
     pub inside : j ≤ n
     pub short : n ≤ mostActions
     pub left : length (remaining (remains c v l)) + j ≡ n
@@ -46,23 +42,19 @@ module _ (g s by rows : List ℕ) (p r : ℕ) where
     pub rest : sequenceOf g (idsOf g) s r
         ≡ out ++ order (λ a b. follows g (idsOf g) s r a b) (n - j) (remaining (remains c v l))
 
-  -- the visits that are left at the start are visits of children
-  pub children-start : (c v l w : ℕ) → RuleGiven g s by rows p r → Started g by p c v l w → Children g p v
-  children-start c v l w given started = children-left g s by rows p r c v l w given (starts-going g s by rows p r given c v l w started)
-
-  pub writing-start : (c v l w n : ℕ) (down : List ℕ) → RuleGiven g s by rows p r → Started g by p c v l w
-      → n ≡ bits.count 64 c + bits.count 64 v + bits.count 64 l → Along g by p v down → Writing n down (n ∷ replicate longestSequence 0) c v l w 0
+  pub writing-start : (c v l w d n : ℕ) → RuleGiven g s by rows p r → Started g by p c v l w d
+      → n ≡ bits.count 64 c + bits.count 64 v + bits.count 64 l → Writing n (n ∷ replicate longestSequence 0) c v l w d 0
   unfolding sequenceOf
-  writing-start c v l w n down given started e along =
-      let f : n ≡ length (remaining (remains c v l)) = e ∙ starts-count g s by rows p r given c v l w started in
+  writing-start c v l w d n given started e =
+      let f : n ≡ length (remaining (remains c v l)) = e ∙ starts-count g s by rows p r given c v l w d started in
       let whole : n - 0 ≡ n = omega arith in
-      let a : remaining (remains c v l) ≡ actionsOf g s r = starts-all g s by rows p r given c v l w started in
+      let a : remaining (remains c v l) ≡ actionsOf g s r = starts-all g s by rows p r given c v l w d started in
       record {
-        along = along;
+        along = starts-along g s by rows p r given c v l w d started;
         inside = omega arith;
         short = omega (arith, ap length a, at-most-104 g s r (five-visits g s by rows p r given));
         left = omega arith;
-        going = starts-going g s by rows p r given c v l w started;
+        going = starts-going g s by rows p r given c v l w d started;
         out = [];
         outLength = refl;
         blockIs = refl;
@@ -71,27 +63,16 @@ module _ (g s by rows : List ℕ) (p r : ℕ) where
       }
 
   -- some action is left, and its word has room
-  pub writing-left : (n : ℕ) (down block : List ℕ) (c v l w j : ℕ) → Writing n down block c v l w j → j < n → 1 ≤ length (remaining (remains c v l))
-  writing-left n down block c v l w j k h = omega (arith, k .left)
+  pub writing-left : (n : ℕ) (block : List ℕ) (c v l w d j : ℕ) → Writing n block c v l w d j → j < n → 1 ≤ length (remaining (remains c v l))
+  writing-left n block c v l w d j k h = omega (arith, k .left)
 
-  -- fewer visits are left, so the table still has what they take along
-  still-along : (down : List ℕ) (c v l c′ v′ l′ : ℕ) → Along g by p v down → ((a : ℕ) → T (remains c′ v′ l′ a) → T (remains c v l a))
-      → Along g by p v′ down
-  still-along down c v l c′ v′ l′ along within =
-      record {
-        is = λ b h t.
-            along .is b h
-            (subst (λ (x : Bool). T x) (remains-visit c v l b h)
-            (within (64 + b) (subst⁻¹ (λ (x : Bool). T x) (remains-visit c′ v′ l′ b h) t)));
-      }
-
-  pub writing-turn : (n : ℕ) (down block : List ℕ) (c v l w j a c′ v′ l′ w′ : ℕ) → Writing n down block c v l w j → j < n
-      → Taken g (idsOf g) s r (remains c v l) a (remains c′ v′ l′) w′ → Writing n down (set block (j + 1) a) c′ v′ l′ w′ (j + 1)
-  writing-turn n down block c v l w j a c′ v′ l′ w′ k h t =
+  pub writing-turn : (n : ℕ) (block : List ℕ) (c v l w d j a c′ v′ l′ w′ d′ : ℕ) → Writing n block c v l w d j → j < n
+      → Taken g (idsOf g) s r (remains c v l) a (remains c′ v′ l′) w′ → Along g by p v′ d′ → Writing n (set block (j + 1) a) c′ v′ l′ w′ d′ (j + 1)
+  writing-turn n block c v l w d j a c′ v′ l′ w′ d′ k h t along =
       let more : longestSequence - j ≡ suc (longestSequence - (j + 1)) = omega (arith, k .short) in
       let steps : n - j ≡ suc (n - (j + 1)) = omega arith in
       record {
-        along = still-along down c v l c′ v′ l′ (k .along) (t .within);
+        along = along;
         inside = omega arith;
         short = k .short;
         left = omega (arith, k .left, t .fewer);
@@ -110,10 +91,10 @@ module _ (g s by rows : List ℕ) (p r : ℕ) where
             ∙ sym (append-assoc (k .out) (a ∷ []) (order (λ a b. follows g (idsOf g) s r a b) (n - (j + 1)) (remaining (remains c′ v′ l′))))));
       }
 
-  pub writing-finish : (n : ℕ) (down block : List ℕ) (c v l w j : ℕ) → Writing n down block c v l w j → n ≤ j
+  pub writing-finish : (n : ℕ) (block : List ℕ) (c v l w d j : ℕ) → Writing n block c v l w d j → n ≤ j
       → block ≡ sequenceWords (sequenceOf g (idsOf g) s r)
   unfolding order sequenceWords padded
-  writing-finish n down block c v l w j k h =
+  writing-finish n block c v l w d j k h =
       let e : j ≡ n = omega (arith, k .inside) in
       let z : n - j ≡ 0 = omega arith in
       let all : sequenceOf g (idsOf g) s r ≡ k .out =

@@ -26,5 +26,4 @@ pub record Taken (g ids s : List ℕ) (r : ℕ) (before : ℕ → Bool) (action 
   pub next : (n : ℕ) → order (λ a b. follows g ids s r a b) (suc n) (remaining before)
       ≡ action ∷ order (λ a b. follows g ids s r a b) n (remaining left)
   pub fewer : suc (length (remaining left)) ≡ length (remaining before)
-  pub within : (a : ℕ) → T (left a) → T (before a)
   pub going : Going g ids s r left waiting

@@ -37,28 +37,21 @@ fn blocked(rows: &[u64], base: usize, waiting: u64) -> u64
 }
 
 // The lowest action that is ready. Computes come before visits, visits before leaves; an ordered rule always has one that is ready.
-fn next(
-    words: &[u16],
-    p: usize,
-    r: usize,
-    by: &ByVisit,
-    rows: &[u64],
-    down: &[u64; ROWS],
-    state: State,
-) -> Step
+fn next(words: &[u16], p: usize, r: usize, by: &ByVisit, rows: &[u64], state: State) -> Step
     requires { ⌜ given.RuleGiven (now words) (given.setWords (now words)) (now by) (now rows) p r ⌝ }
     requires { ⌜ going.Going (now words) (idsOf (now words)) (given.setWords (now words)) r (spec.remains (state .computes) (state .visits) (state .leaves)) (state .waiting) ⌝ }
     requires { ⌜ 1 ≤ length (spec.remaining (spec.remains (state .computes) (state .visits) (state .leaves))) ⌝ }
-    requires { ⌜ masks.Along (now words) (now by) p (state .visits) (now down) ⌝ }
+    requires { ⌜ masks.Along (now words) (now by) p (state .visits) (state .wanted) ⌝ }
     ensures { λ s. ⌜ going.Taken (now (words .entry)) (idsOf (now (words .entry))) (given.setWords (now (words .entry))) r (spec.remains (state .computes) (state .visits) (state .leaves)) (s .action) (spec.remains (s .state .computes) (s .state .visits) (s .state .leaves)) (s .state .waiting) ⌝ }
+    ensures { λ s. ⌜ masks.Along (now (words .entry)) (now (by .entry)) p (s .state .visits) (s .state .wanted) ⌝ }
 {
     let computes = bits::minus(state.computes, blocked(rows, ROWS * r, state.waiting));
     if computes != 0 {
         return remaining::compute(state, bits::first(computes));
     }
-    let visits = remaining::ready_visits(down, state.visits, state.waiting);
-    if visits != 0 {
-        return remaining::visit(words, p, by, state, bits::first(visits));
+    let b = remaining::ready_visit(state.visits, bits::common(state.wanted, state.waiting));
+    if b < 64 {
+        return remaining::visit(words, p, by, state, b);
     }
     let leaves = remaining::ready_leaves(words, p, by, state);
     remaining::leave(words, p, by, state, bits::first(leaves))
@@ -71,11 +64,10 @@ fn words_of(words: &[u16], p: usize, r: usize, by: &ByVisit, rows: &[u64]) -> [u
 {
     let mut state = remaining::start(words, p, by);
     let n = remaining::actions_left(state);
-    let down = remaining::taken_along(words, p, by, state.visits);
     let mut block = [0u16; RULE_WORDS];
     block[0] = n as u16;
     for j in 0..n {
-        let step = next(words, p, r, by, rows, &down, state);
+        let step = next(words, p, r, by, rows, state);
         block[j + 1] = step.action as u16;
         state = step.state;
     }

@@ -1,4 +1,4 @@
--- `remaining::start` meets its contract: each of the four sets is what its call answers. Assumes nothing.
+-- `remaining::start` meets its contract: each of the five sets is what its call answers. Assumes nothing.
 use borrow.Author.Needs.{needs}
 use Rattle.remaining.proofs.LeftLaws.{started-by, left-low}
 use Rattle.remaining.proofs.start.Statement.{statement}
@@ -10,8 +10,8 @@ symbol-of-requires c κs = search needs
 defining-set-requires : tie.Need-defining-set-requires
 defining-set-requires c κs = search needs
 
-all-visits-requires : tie.Need-all-visits-requires
-all-visits-requires c κs = search needs
+of-children-requires : tie.Need-of-children-requires
+of-children-requires c κs = search needs
 
 visits-in-requires : tie.Need-visits-in-requires
 visits-in-requires c κs = search left-low
@@ -25,6 +25,9 @@ inherited-of-requires c κs = (search left-low, search needs)
 minus-requires : tie.Need-minus-requires
 minus-requires c κs = search needs
 
+of-children-requires-2 : tie.Need-of-children-requires-2
+of-children-requires-2 c κs = search needs
+
 returns : tie.Need-returns
 returns c = search started-by
 
@@ -34,9 +37,10 @@ start-spec =
     (tie.spec
     symbol-of-requires
     defining-set-requires
-    all-visits-requires
+    of-children-requires
     visits-in-requires
     made-occurrences-requires
     inherited-of-requires
     minus-requires
+    of-children-requires-2
     returns)

@@ -1,11 +1,14 @@
--- `sequencing::next` meets its contract. Each of the three sets has exactly the actions of its kind that are ready, and some action always is: so the
--- lowest member of the first set that is not empty is the lowest ready action. Assumes nothing.
+-- `sequencing::next` meets its contract. The computes that are not blocked, the lowest visit and the leaves are those that are ready, and some
+-- action always is: so the first of them in this order is the lowest ready action. Assumes nothing.
 use borrow.Author.Needs.{needs}
 use Rattle.sequencing.proofs.GivenLaws.{place-small, left-low, rows-ready}
 use Rattle.sequencing.proofs.NextLaws.{
+  along-kept,
+  along-next,
   next-compute,
   next-visit,
   visit-child,
+  visit-few,
   next-leave,
   leaves-left,
   leave-ready-then,
@@ -30,31 +33,31 @@ compute-requires : tie.Need-compute-requires
 compute-requires c κs = search needs
 
 returns : tie.Need-returns
-returns c = search next-compute
+returns c = (search next-compute, search along-kept)
 
-ready-visits-requires : tie.Need-ready-visits-requires
-ready-visits-requires c κs = search needs
+common-requires : tie.Need-common-requires
+common-requires c κs = search needs
 
-first-requires-2 : tie.Need-first-requires-2
-first-requires-2 c κs = search needs
+ready-visit-requires : tie.Need-ready-visit-requires
+ready-visit-requires c κs = search needs
 
 visit-requires : tie.Need-visit-requires
-visit-requires c κs = ((search place-small, search needs), search visit-child)
+visit-requires c κs = ((search place-small, (search needs, search visit-few)), search visit-child)
 
 returns-2 : tie.Need-returns-2
-returns-2 c = search (next-visit, needs)
+returns-2 c = (search (next-visit, needs), search (along-next, needs))
 
 ready-leaves-requires : tie.Need-ready-leaves-requires
 ready-leaves-requires c κs = ((search place-small, search left-low), search leaves-left)
 
-first-requires-3 : tie.Need-first-requires-3
-first-requires-3 c κs = search (leave-ready-then, needs)
+first-requires-2 : tie.Need-first-requires-2
+first-requires-2 c κs = search (leave-ready-then, needs)
 
 leave-requires : tie.Need-leave-requires
 leave-requires c κs = ((search place-small, search leave-inside), search left-low)
 
 returns-3 : tie.Need-returns-3
-returns-3 c = search (next-leave, needs)
+returns-3 c = (search (next-leave, needs), search along-kept)
 
 pub next-spec : {M : Type 1} → statement M
 next-spec =
@@ -66,11 +69,11 @@ next-spec =
     first-requires
     compute-requires
     returns
-    ready-visits-requires
-    first-requires-2
+    common-requires
+    ready-visit-requires
     visit-requires
     returns-2
     ready-leaves-requires
-    first-requires-3
+    first-requires-2
     leave-requires
     returns-3)

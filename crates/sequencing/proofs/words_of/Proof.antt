@@ -2,34 +2,23 @@
 -- left gives the others. The ones of the three sets count the turns. Assumes nothing.
 use borrow.Author.Needs.{needs}
 use Prim.Native.Nat.{_-_}
-use Rattle.sequencing.proofs.WritingLaws.{
-  shaped-given,
-  children-start,
-  Writing,
-  writing-start,
-  writing-left,
-  writing-turn,
-  writing-finish,
-}
+use Rattle.sequencing.proofs.WritingLaws.{shaped-given, Writing, writing-start, writing-left, writing-turn, writing-finish}
 use Rattle.sequencing.proofs.GivenLaws.{place-small, tabled-given}
 use Rattle.sequencing.specs.Given.{setWords}
 use Rattle.sequencing.proofs.words_of.Statement.{statement}
 use Rattle.sequencing.proofs.words_of.Tie as tie
 
 abbrev Inv-loop : tie.InvT-loop
-Inv-loop words p r by rows state₀ n down block₀ j₀ state block j = Writing words (setWords words) by rows p r n down block (state .computes) (state .visits) (state .leaves) (state .waiting) j
+Inv-loop words p r by rows state₀ n block₀ j₀ state block j = Writing words (setWords words) by rows p r n block (state .computes) (state .visits) (state .leaves) (state .waiting) (state .wanted) j
 
 abbrev μ-loop : tie.MeasureT-loop
-μ-loop words p r by rows state₀ n down block₀ j₀ state block j = n - j
+μ-loop words p r by rows state₀ n block₀ j₀ state block j = n - j
 
 start-requires : tie.Need-start-requires Inv-loop μ-loop
 start-requires c κs = (search place-small, (search shaped-given, search tabled-given))
 
 actions-left-requires : tie.Need-actions-left-requires Inv-loop μ-loop
 actions-left-requires c κs = search needs
-
-taken-along-requires : tie.Need-taken-along-requires Inv-loop μ-loop
-taken-along-requires c κs = (search place-small, search children-start)
 
 cast-block : tie.Need-cast-block Inv-loop μ-loop
 cast-block c = search needs
@@ -75,7 +64,6 @@ words-of-spec =
     μ-loop
     start-requires
     actions-left-requires
-    taken-along-requires
     cast-block
     array-write-block
     loop-holds
