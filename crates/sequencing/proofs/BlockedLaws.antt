@@ -1,6 +1,6 @@
--- What is blocked: the loop's record holds at its start, at every turn and at its end gives what the function promises. Assumes nothing.
+-- What is not blocked: the loop's record holds at its start, at every turn and at its end gives what the function promises. Assumes nothing.
 use Prim.Native.Nat.{ℕ, _+_, _≤_, _<_}
-use mathlib.Core.Path.{_≡_, _∙_, ap, subst, subst⁻¹}
+use mathlib.Core.Path.{_≡_, sym, _∙_, ap, subst, subst⁻¹}
 use mathlib.Core.Logic.{_⊎_, inl, inr, ⊎-elim}
 use mathlib.Core.Bool.{not}
 use mathlib.Core.List.{List}
@@ -8,61 +8,92 @@ use native.Mathlib.Omega.{arith}
 use lib.Dec.{T, T-not}
 use lib.ListN.{length, getD}
 use Rattle.basics.specs.Lists.{word}
-use Rattle.basics.proofs.TestLaws.{tested, true-T}
-use Rattle.bits.specs.Bit.{hasb, remove, union, minus, lowest, First}
-use Rattle.bits.proofs.BitLaws.{bit-has}
-use Rattle.bits.proofs.MemberLaws.{none-left, union-cases, union-left, union-right, minus-both, both-minus}
+use Rattle.basics.proofs.TestLaws.{tested}
+use Rattle.bits.specs.Bit.{hasb, remove, minus, lowest, First}
+use Rattle.bits.proofs.MemberLaws.{none-left, minus-both, both-minus}
 use Rattle.bits.proofs.RestLaws.{rest-of}
 use Rattle.grammar.specs.Limits.{mostOccurrences}
-use Rattle.remaining.proofs.MemberWalks.{was-left, gone, left-less}
-use Rattle.sequencing.specs.Blocked.{RowsClosed, Blocked}
-
--- the rows of those that are done
-pub record Blocking (rows : List ℕ) (base waiting left blocked : ℕ) : Type 0 where
-  pub room : base + mostOccurrences ≤ length rows
-  pub closed : RowsClosed rows base
-  pub within : (o : ℕ) → T (hasb o left) → T (hasb o waiting)
-  pub by : (b : ℕ) → T (hasb b blocked) → (o : ℕ) × T (hasb o waiting) × T (hasb b (word rows (base + o)))
-  pub all : (b o : ℕ) → T (hasb o waiting) → T (not (hasb o left)) → T (hasb b (word rows (base + o))) → T (hasb b blocked)
-
-pub blocking-start : (rows : List ℕ) (base waiting : ℕ) → (base + mostOccurrences ≤ length rows) × RowsClosed rows base → Blocking rows base waiting waiting 0
-blocking-start rows base waiting h =
-    record {
-      room = h .0;
-      closed = h .1;
-      within = λ o t. t;
-      by = λ b t. absurd (T-not (hasb b 0) (none-left b) t);
-      all = λ b o t n u. absurd (T-not (hasb o waiting) n t);
-    }
+use Rattle.remaining.proofs.MemberWalks.{first-member, was-left, gone, left-less}
+use Rattle.sequencing.specs.Blocked.{RowsClosed, Unblocked}
 
 -- row o
 abbrev rowAt : List ℕ → ℕ → ℕ → ℕ
 rowAt rows base o = getD rows (base + o) 0
 
--- the lowest that is left is done, and with it all that it leads to
-pub blocking-turn : (rows : List ℕ) (base waiting left blocked o rest next more : ℕ) → Blocking rows base waiting left blocked → First left o
-    → rest ≡ remove (lowest 64 left) left → next ≡ minus rest (getD rows (base + o) 0) → more ≡ union blocked (getD rows (base + o) 0)
-    → Blocking rows base waiting next more
-blocking-turn rows base waiting left blocked o rest next more w f e n q =
-    subst⁻¹ (λ (x : ℕ). Blocking rows base waiting x more) (n ∙ ap (λ (x : ℕ). minus x (rowAt rows base o)) (rest-of left o rest f e))
-    (subst⁻¹ (λ (x : ℕ). Blocking rows base waiting (minus (remove o left) (rowAt rows base o)) x) q
-    (record {
-      room = w .room;
-      closed = w .closed;
-      within = λ b t. w .within b (was-left left o b (minus-both b (remove o left) (rowAt rows base o) t .0));
-      by = λ b t. ⊎-elim (λ u. w .by b u) (λ u. (o, w .within o (true-T _ (bit-has o left (f .member))), u)) (union-cases b blocked (rowAt rows base o) t);
-      all = λ b k t m u.
+module _ (rows : List ℕ) (base waiting computes : ℕ) where
+  -- those that are done block none of the computes that seem ready, and each of the others is blocked
+  pub record Blocking (left ready : ℕ) : Type 0 where
+    pub room : base + mostOccurrences ≤ length rows
+    pub closed : RowsClosed rows base
+    pub left-waits : (o : ℕ) → T (hasb o left) → T (hasb o waiting)
+    pub within : (b : ℕ) → T (hasb b ready) → T (hasb b computes)
+    pub by : (b : ℕ) → T (hasb b computes) → T (not (hasb b ready)) → (o : ℕ) × T (hasb o waiting) × T (hasb b (word rows (base + o)))
+    pub free : (b o : ℕ) → T (hasb b ready) → T (hasb o waiting) → T (not (hasb o left)) → T (hasb b (word rows (base + o))) → ⊥
+
+  pub blocking-start : (base + mostOccurrences ≤ length rows) × RowsClosed rows base → Blocking waiting computes
+  blocking-start h =
+      record {
+        room = h .0;
+        closed = h .1;
+        left-waits = λ o t. t;
+        within = λ b t. t;
+        by = λ b t n. absurd (T-not (hasb b computes) n t);
+        free = λ b o t u n y. T-not (hasb o waiting) n u;
+      }
+
+  -- the lowest that is left is done, and with it all that it leads to
+  blocked-less : (left ready o : ℕ) → Blocking left ready → First left o
+      → Blocking (minus (remove o left) (rowAt rows base o)) (minus ready (rowAt rows base o))
+  blocked-less left ready o w f =
+      record {
+        room = w .room;
+        closed = w .closed;
+        left-waits = λ b t. w .left-waits b (was-left left o b (minus-both b (remove o left) (rowAt rows base o) t .0));
+        within = λ b t. w .within b (minus-both b ready (rowAt rows base o) t .0);
+        by = λ b t n.
+            ⊎-elim (λ u. (o, w .left-waits o (first-member left o f), u)) (λ u. w .by b t u) (taken ready b n);
+        free = λ b k t u n y.
+            let z = minus-both b ready (rowAt rows base o) t in
+            ⊎-elim (λ i. T-not (hasb b (rowAt rows base o)) (z .1) (w .closed o k b (f .small) i y))
+            (λ i.
+            ⊎-elim (λ j. T-not (hasb b (rowAt rows base o)) (z .1) (subst (λ (x : ℕ). T (hasb b (word rows (base + x)))) j y))
+            (λ j. w .free b k (z .0) u j y) (gone left o k i))
+            (taken (remove o left) k n);
+      }
+    where
+      taken : (s k : ℕ) → T (not (hasb k (minus s (rowAt rows base o)))) → T (hasb k (rowAt rows base o)) ⊎ T (not (hasb k s))
+      taken s k n =
           ⊎-elim
-          (λ d. ⊎-elim
-          (λ i. union-right b blocked (rowAt rows base o) (subst (λ (x : ℕ). T (hasb b (word rows (base + x)))) i u))
-          (λ i. union-left b blocked (rowAt rows base o) (w .all b k t i u)) (gone left o k d))
-          (λ d. union-right b blocked (rowAt rows base o) (w .closed o k b (f .small) d u)) (taken k m);
-    }))
-  where
-    taken : (k : ℕ) → T (not (hasb k (minus (remove o left) (rowAt rows base o)))) → T (not (hasb k (remove o left))) ⊎ T (hasb k (rowAt rows base o))
-    taken k m =
-        ⊎-elim (λ t. ⊎-elim (λ u. inr u) (λ u. absurd (T-not (hasb k (minus (remove o left) (rowAt rows base o))) m (both-minus k (remove o left) (rowAt rows base o) t u))) (tested (hasb k (rowAt rows base o))))
-        (λ t. inl t) (tested (hasb k (remove o left)))
+          (λ t.
+          ⊎-elim (λ u. inl u) (λ u. absurd (T-not (hasb k (minus s (rowAt rows base o))) n (both-minus k s (rowAt rows base o) t u)))
+          (tested (hasb k (rowAt rows base o))))
+          (λ t. inr t) (tested (hasb k s))
+
+  pub blocking-turn : (left ready o rest next more : ℕ) → Blocking left ready → First left o → more ≡ minus ready (getD rows (base + o) 0)
+      → rest ≡ remove (lowest 64 left) left → next ≡ minus rest (getD rows (base + o) 0) → Blocking next more
+  blocking-turn left ready o rest next more w f q e n =
+      subst⁻¹ (λ (x : ℕ). Blocking x more) (n ∙ ap (λ (x : ℕ). minus x (rowAt rows base o)) (rest-of left o rest f e))
+      (subst⁻¹ (λ (x : ℕ). Blocking (minus (remove o left) (rowAt rows base o)) x) q (blocked-less left ready o w f))
+
+  pub blocking-finish : (left ready : ℕ) → Blocking left ready → left ≡ 0 → Unblocked rows base waiting computes ready
+  blocking-finish left ready w e =
+      record {
+        within = w .within;
+        free = λ b o t u y. w .free b o t u (subst⁻¹ (λ (x : ℕ). T (not (hasb o x))) e (none-left o)) y;
+        all = λ b t f.
+            ⊎-elim (λ u. u) (λ u. let k = w .by b t u in absurd (f (k .0) (k .1) (k .2))) (tested (hasb b ready));
+      }
+
+  -- where all computes are blocked
+  pub blocking-none : (left ready o more : ℕ) → Blocking left ready → First left o → more ≡ minus ready (getD rows (base + o) 0) → more ≡ 0
+      → Unblocked rows base waiting computes 0
+  blocking-none left ready o more w f q e =
+      let d = subst (λ (x : ℕ). Blocking (minus (remove o left) (rowAt rows base o)) x) (sym q ∙ e) (blocked-less left ready o w f) in
+      record {
+        within = λ b t. absurd (T-not (hasb b 0) (none-left b) t);
+        free = λ b o t u y. T-not (hasb b 0) (none-left b) t;
+        all = λ b t f. let k = d .by b t (none-left b) in absurd (f (k .0) (k .1) (k .2));
+      }
 
 minus-le : (a b : ℕ) → minus a b ≤ a
 unfolding minus
@@ -71,11 +102,3 @@ minus-le a b = omega arith
 pub blocking-less : (left o rest row next : ℕ) → First left o → rest ≡ remove (lowest 64 left) left → next ≡ minus rest row → next < left
 blocking-less left o rest row next f e n =
     let l : rest < left = left-less left o rest f (rest-of left o rest f e) in omega (arith, n, minus-le rest row)
-
-pub blocking-finish : (rows : List ℕ) (base waiting left blocked : ℕ) → Blocking rows base waiting left blocked → left ≡ 0
-    → Blocked rows base waiting blocked
-blocking-finish rows base waiting left blocked w e =
-    record {
-      by = w .by;
-      all = λ b o t u. w .all b o t (subst⁻¹ (λ (x : ℕ). T (not (hasb o x))) e (none-left o)) u;
-    }

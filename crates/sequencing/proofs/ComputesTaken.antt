@@ -6,9 +6,9 @@ use mathlib.Core.Logic.{⊎-elim}
 use mathlib.Core.Bool.{Bool}
 use mathlib.Core.List.{List}
 use native.Mathlib.Omega.{arith}
-use lib.Dec.{T, T-not, not-T}
-use Rattle.bits.specs.Bit.{hasb, remove, minus, First}
-use Rattle.bits.proofs.MemberLaws.{none-left, has-not, has-other, minus-both, both-minus}
+use lib.Dec.{T, T-not}
+use Rattle.bits.specs.Bit.{hasb, remove, First}
+use Rattle.bits.proofs.MemberLaws.{none-left, has-not, has-other}
 use Rattle.basics.proofs.TestLaws.{same-or-not}
 use Rattle.grammar.specs.Limits.{rowWords}
 use Rattle.grammar.specs.Table.{defining}
@@ -20,7 +20,7 @@ use Rattle.sequences.proofs.MakesLaws.{makes-compute, compute-made}
 use Rattle.sequencing.specs.Given.{RuleGiven}
 use Rattle.remaining.specs.Remaining.{remains}
 use Rattle.sequencing.specs.Going.{Going, Taken}
-use Rattle.sequencing.specs.Blocked.{Blocked}
+use Rattle.sequencing.specs.Blocked.{Unblocked}
 use Rattle.remaining.proofs.MemberWalks.{first-member, under-first}
 use Rattle.sequencing.proofs.ReadyComputes.{free-quiet, quiet-free}
 use Rattle.sequencing.proofs.OrderSteps.{taken}
@@ -33,28 +33,26 @@ module _ (g s by rows : List ℕ) (p r : ℕ) (given : RuleGiven g s by rows p r
     computed o h t =
         belongs-compute g s r o (action-belongs g s r o (compute o) (decode-compute o h) (going .actions o (left-compute c v l o h t)))
 
-    module _ (blocked : ℕ) (rule : Blocked rows (rowWords r) w blocked) where
+    module _ (quiet : ℕ) (rule : Unblocked rows (rowWords r) w c quiet) where
       -- a compute is ready exactly where nothing blocks it
-      unblocked : (o : ℕ) → o < 64 → T (hasb o c) → ActionReady g s r c v l o → T (hasb o (minus c blocked))
+      unblocked : (o : ℕ) → o < 64 → T (hasb o c) → ActionReady g s r c v l o → T (hasb o quiet)
       unblocked o h t f =
-          both-minus o c blocked t
-          (not-T (hasb o blocked)
-          (λ u.
-          let k = rule .by o u in
+          rule .all o t
+          (λ x k u.
           free-quiet g (idsOf g) s r (orderly-rule g s by rows p r given) (five-visits g s by rows p r given) (remains c v l) w going o
-          (computed o h t) f (k .0) (k .1)
-          (subst (λ (x : Bool). T x) (row-path g s by rows p r given (k .0) o (waiting-fits g s by rows p r given c v l w going (k .0) (k .1)) h) (k .2))))
+          (computed o h t) f x k
+          (subst (λ (b : Bool). T b) (row-path g s by rows p r given x o (waiting-fits g s by rows p r given c v l w going x k) h) u))
 
-      ready-compute : (o : ℕ) → o < 64 → T (hasb o (minus c blocked)) → ActionReady g s r c v l o
+      ready-compute : (o : ℕ) → o < 64 → T (hasb o quiet) → ActionReady g s r c v l o
       ready-compute o h t =
-          let u = minus-both o c blocked t in
-          quiet-free g (idsOf g) s r (orderly-rule g s by rows p r given) (five-visits g s by rows p r given) (remains c v l) w going o (computed o h (u .0)) h
+          quiet-free g (idsOf g) s r (orderly-rule g s by rows p r given) (five-visits g s by rows p r given) (remains c v l) w going o
+          (computed o h (rule .within o t)) h
           (λ x k q.
-          T-not (hasb o blocked) (u .1)
-          (rule .all o x k (subst⁻¹ (λ (b : Bool). T b) (row-path g s by rows p r given x o (waiting-fits g s by rows p r given c v l w going x k) h) q)))
+          rule .free o x t k
+          (subst⁻¹ (λ (b : Bool). T b) (row-path g s by rows p r given x o (waiting-fits g s by rows p r given c v l w going x k) h) q))
 
       -- the lowest of them is next
-      pub take-compute : (o : ℕ) → First (minus c blocked) o
+      pub take-compute : (o : ℕ) → First quiet o
           → Taken g (idsOf g) s r (remains c v l) o (remains (remove o c) v l) (remove o w)
       take-compute o f =
           taken g (idsOf g) s r (remains c v l) w going o (left-compute c v l o (f .small) here)
@@ -78,9 +76,9 @@ module _ (g s by rows : List ℕ) (p r : ℕ) (given : RuleGiven g s by rows p r
           (λ q. subst⁻¹ (λ (y : Bool). T y) (has-other o x w q) t) (same-or-not x o))
         where
           here : T (hasb o c)
-          here = minus-both o c blocked (first-member _ o f) .0
+          here = rule .within o (first-member _ o f)
 
-      pub no-compute-ready : minus c blocked ≡ 0 → (o : ℕ) → o < 64 → T (remains c v l o) → ActionReady g s r c v l o → ⊥
+      pub no-compute-ready : quiet ≡ 0 → (o : ℕ) → o < 64 → T (remains c v l o) → ActionReady g s r c v l o → ⊥
       no-compute-ready e o h t f =
           T-not (hasb o 0) (none-left o)
           (subst (λ (x : ℕ). T (hasb o x)) e (unblocked o h (subst (λ (x : Bool). T x) (remains-compute c v l o h) t) f))

@@ -22,7 +22,7 @@ use Rattle.sequences.specs.Follows.{follows}
 use Rattle.sequencing.specs.Given.{RuleGiven}
 use Rattle.remaining.specs.Remaining.{remains, remaining, Done}
 use Rattle.sequencing.specs.Going.{Going, Taken}
-use Rattle.sequencing.specs.Blocked.{Blocked}
+use Rattle.sequencing.specs.Blocked.{Unblocked}
 use Rattle.remaining.specs.RuleSets.{handedUp, handedDown, wantedNext, FewLeaves, Along, readyVisits, readyLeaves}
 use Rattle.remaining.proofs.MemberWalks.{first-member}
 use Rattle.remaining.proofs.LeaveSetLaws.{leave-ready-at}
@@ -50,12 +50,12 @@ module _ (g s by rows : List ℕ) (p r : ℕ) where
     along-kept d action c′ v′ l′ w′ d′ a x m z along e =
         subst⁻¹ (λ (k : ℕ). Along g by p k d′) (e .visitsAre) (subst⁻¹ (λ (k : ℕ). Along g by p v k) (e .wantedAre) along)
 
-    pub next-compute : (blocked ready o action c′ v′ l′ w′ d d′ : ℕ) → RuleGiven g s by rows p r → Going g (idsOf g) s r (remains c v l) w
-        → Blocked rows (rowWords r) w blocked → ready ≡ minus c blocked → First ready o → Done action c′ v′ l′ w′ d′ o (remove o c) v l (remove o w) d
+    pub next-compute : (ready o action c′ v′ l′ w′ d d′ : ℕ) → RuleGiven g s by rows p r → Going g (idsOf g) s r (remains c v l) w
+        → Unblocked rows (rowWords r) w c ready → First ready o → Done action c′ v′ l′ w′ d′ o (remove o c) v l (remove o w) d
         → Taken g (idsOf g) s r (remains c v l) action (remains c′ v′ l′) w′
-    next-compute blocked ready o action c′ v′ l′ w′ d d′ given going k e f done =
+    next-compute ready o action c′ v′ l′ w′ d d′ given going k f done =
         done-taken action c′ v′ l′ w′ d′ o (remove o c) v l (remove o w) d done
-        (take-compute g s by rows p r given c v l w going blocked k o (subst (λ (x : ℕ). First x o) e f))
+        (take-compute g s by rows p r given c v l w going ready k o f)
 
     -- the lowest visit that is ready, and that none is
     first-visit : (d lacking b : ℕ) → lacking ≡ common d w → b ≡ lowest 64 (readyVisits v lacking) → b < 64 → First (readyVisits v (common d w)) b
@@ -76,14 +76,14 @@ module _ (g s by rows : List ℕ) (p r : ℕ) where
         let i : k < 64 = hasb-below 64 k (readyVisits v lacking) (collect-lt 64 _) t in
         T-not (hasb k (readyVisits v lacking)) (false-T _ (bit-lacks k _ (bit-under-lowest 64 k (readyVisits v lacking) (omega arith)))) t)
 
-    pub next-visit : (blocked ready lacking b action c′ v′ l′ w′ d d′ e′ : ℕ) → RuleGiven g s by rows p r
-        → Going g (idsOf g) s r (remains c v l) w → Along g by p v d → Blocked rows (rowWords r) w blocked → ready ≡ minus c blocked → ready ≡ 0
+    pub next-visit : (ready lacking b action c′ v′ l′ w′ d d′ e′ : ℕ) → RuleGiven g s by rows p r
+        → Going g (idsOf g) s r (remains c v l) w → Along g by p v d → Unblocked rows (rowWords r) w c ready → ready ≡ 0
         → lacking ≡ common d w → b ≡ lowest 64 (readyVisits v lacking) → b < 64
         → Done action c′ v′ l′ w′ d′ (64 + b) c (remove b v) l (minus w (handedUp g by p b)) e′
         → Taken g (idsOf g) s r (remains c v l) action (remains c′ v′ l′) w′
-    next-visit blocked ready lacking b action c′ v′ l′ w′ d d′ e′ given going along k e z q f h done =
+    next-visit ready lacking b action c′ v′ l′ w′ d d′ e′ given going along k z q f h done =
         done-taken action c′ v′ l′ w′ d′ (64 + b) c (remove b v) l (minus w (handedUp g by p b)) e′ done
-        (take-visit g s by rows p r given c v l w going d along b (no-compute-ready g s by rows p r given c v l w going blocked k (sym e ∙ z))
+        (take-visit g s by rows p r given c v l w going d along b (no-compute-ready g s by rows p r given c v l w going ready k z)
         (first-visit d lacking b q f h))
 
     ready-there : (d lacking b : ℕ) → RuleGiven g s by rows p r → Going g (idsOf g) s r (remains c v l) w → Along g by p v d → lacking ≡ common d w
@@ -120,22 +120,22 @@ module _ (g s by rows : List ℕ) (p r : ℕ) where
     pub leaves-left : RuleGiven g s by rows p r → Going g (idsOf g) s r (remains c v l) w → FewLeaves l
     leaves-left given going b t = leave-few g s by rows p r given c v l w going b t
 
-    pub next-leave : (blocked ready lacking b′ leaves b action c′ v′ l′ w′ d d′ : ℕ) → RuleGiven g s by rows p r
-        → Going g (idsOf g) s r (remains c v l) w → Along g by p v d → Blocked rows (rowWords r) w blocked → ready ≡ minus c blocked → ready ≡ 0
+    pub next-leave : (ready lacking b′ leaves b action c′ v′ l′ w′ d d′ : ℕ) → RuleGiven g s by rows p r
+        → Going g (idsOf g) s r (remains c v l) w → Along g by p v d → Unblocked rows (rowWords r) w c ready → ready ≡ 0
         → lacking ≡ common d w → b′ ≡ lowest 64 (readyVisits v lacking) → 64 ≤ b′ → leaves ≡ readyLeaves g by p c v l w → First leaves b
         → Done action c′ v′ l′ w′ d′ (128 + b) c v (remove b l) (minus w (handedDown g by p b)) d
         → Taken g (idsOf g) s r (remains c v l) action (remains c′ v′ l′) w′
-    next-leave blocked ready lacking b′ leaves b action c′ v′ l′ w′ d d′ given going along k e z q n h m f done =
+    next-leave ready lacking b′ leaves b action c′ v′ l′ w′ d d′ given going along k z q n h m f done =
         done-taken action c′ v′ l′ w′ d′ (128 + b) c v (remove b l) (minus w (handedDown g by p b)) d done
-        (take-leave g s by rows p r given c v l w going (no-compute-ready g s by rows p r given c v l w going blocked k (sym e ∙ z))
+        (take-leave g s by rows p r given c v l w going (no-compute-ready g s by rows p r given c v l w going ready k z)
         (no-visit-ready g s by rows p r given c v l w going d along (no-visit d lacking b′ q n h)) b (subst (λ (x : ℕ). First x b) m f))
 
     -- where nothing else is ready a leave is
-    pub leave-ready-then : (blocked ready lacking b′ leaves d : ℕ) → RuleGiven g s by rows p r
+    pub leave-ready-then : (ready lacking b′ leaves d : ℕ) → RuleGiven g s by rows p r
         → Going g (idsOf g) s r (remains c v l) w → 1 ≤ length (remaining (remains c v l)) → Along g by p v d
-        → Blocked rows (rowWords r) w blocked → ready ≡ minus c blocked → ready ≡ 0 → lacking ≡ common d w → b′ ≡ lowest 64 (readyVisits v lacking)
+        → Unblocked rows (rowWords r) w c ready → ready ≡ 0 → lacking ≡ common d w → b′ ≡ lowest 64 (readyVisits v lacking)
         → 64 ≤ b′ → leaves ≡ readyLeaves g by p c v l w → 0 < leaves
-    leave-ready-then blocked ready lacking b′ leaves d given going some along k e z q n i m =
+    leave-ready-then ready lacking b′ leaves d given going some along k z q n i m =
         ⊎-elim (λ h. h)
         (λ h.
         let y : leaves ≡ 0 = omega arith in
@@ -145,7 +145,7 @@ module _ (g s by rows : List ℕ) (p r : ℕ) where
       where
         t : (d : ℕ) × T (hasb d l) × ((b : ℕ) → T (remains c v l b) → T (follows g (idsOf g) s r (128 + d) b) → ⊥)
         t =
-            some-leave g s by rows p r given c v l w going (no-compute-ready g s by rows p r given c v l w going blocked k (sym e ∙ z))
+            some-leave g s by rows p r given c v l w going (no-compute-ready g s by rows p r given c v l w going ready k z)
             (no-visit-ready g s by rows p r given c v l w going d along (no-visit d lacking b′ q n i)) some
 
     pub leave-inside : (leaves b : ℕ) → RuleGiven g s by rows p r → Going g (idsOf g) s r (remains c v l) w → leaves ≡ readyLeaves g by p c v l w

@@ -1,4 +1,4 @@
--- Which occurrences are blocked: those to which a path leads from one that waits. Of the computes that are left the others are ready.
+-- Which computes are blocked: those to which a path leads from an occurrence that waits. Of the computes that are left the others are ready.
 -- For proofs of the code: no demand rests on it. Assumes nothing.
 use Prim.Native.Nat.{ℕ, _+_, _<_}
 use mathlib.Core.List.{List}
@@ -12,7 +12,8 @@ abbrev pub RowsClosed : List ℕ → ℕ → Type 0
 RowsClosed rows base =
     (o k b : ℕ) → o < mostOccurrences → T (hasb k (word rows (base + o))) → T (hasb b (word rows (base + k))) → T (hasb b (word rows (base + o)))
 
--- what is blocked are the members of the rows of what waits, and no others
-pub record Blocked (rows : List ℕ) (base waiting blocked : ℕ) : Type 0 where
-  pub by : (b : ℕ) → T (hasb b blocked) → (o : ℕ) × T (hasb o waiting) × T (hasb b (word rows (base + o)))
-  pub all : (b o : ℕ) → T (hasb o waiting) → T (hasb b (word rows (base + o))) → T (hasb b blocked)
+-- the computes to which no path leads from what waits, and no others
+pub record Unblocked (rows : List ℕ) (base waiting computes ready : ℕ) : Type 0 where
+  pub within : (b : ℕ) → T (hasb b ready) → T (hasb b computes)
+  pub free : (b o : ℕ) → T (hasb b ready) → T (hasb o waiting) → T (hasb b (word rows (base + o))) → ⊥
+  pub all : (b : ℕ) → T (hasb b computes) → ((o : ℕ) → T (hasb o waiting) → T (hasb b (word rows (base + o))) → ⊥) → T (hasb b ready)

@@ -20,20 +20,24 @@ ghost use Rattle.sequencing.specs.Given as given;
 ghost use Rattle.sequencing.specs.Blocked as blocking;
 ghost use Rattle.sequencing.specs.Going as going;
 
-// The occurrences to which a path leads from one that waits. Where one that waits leads to another, the other blocks nothing more.
-fn blocked(rows: &[u64], base: usize, waiting: u64) -> u64
+// The computes to which no path leads from what waits. Where one that waits leads to another, the other blocks nothing more, and once all
+// computes are blocked the rest of what waits blocks no more of them.
+fn unblocked(rows: &[u64], base: usize, waiting: u64, computes: u64) -> u64
     requires { ⌜ base + limits.mostOccurrences ≤ length (now rows) ⌝ }
     requires { ⌜ blocking.RowsClosed (now rows) base ⌝ }
-    ensures { λ r. ⌜ blocking.Blocked (now (rows .entry)) base waiting r ⌝ }
+    ensures { λ r. ⌜ blocking.Unblocked (now (rows .entry)) base waiting computes r ⌝ }
 {
     let mut left = waiting;
-    let mut blocked = 0;
+    let mut ready = computes;
     while left != 0 {
         let row = rows[base + bits::first(left)];
-        blocked = bits::union(blocked, row);
+        ready = bits::minus(ready, row);
+        if ready == 0 {
+            return 0;
+        }
         left = bits::minus(bits::rest(left), row);
     }
-    blocked
+    ready
 }
 
 // The lowest action that is ready. Computes come before visits, visits before leaves; an ordered rule always has one that is ready.
@@ -45,7 +49,7 @@ fn next(words: &[u16], p: usize, r: usize, by: &ByVisit, rows: &[u64], state: St
     ensures { λ s. ⌜ going.Taken (now (words .entry)) (idsOf (now (words .entry))) (given.setWords (now (words .entry))) r (spec.remains (state .computes) (state .visits) (state .leaves)) (s .action) (spec.remains (s .state .computes) (s .state .visits) (s .state .leaves)) (s .state .waiting) ⌝ }
     ensures { λ s. ⌜ masks.Along (now (words .entry)) (now (by .entry)) p (s .state .visits) (s .state .wanted) ⌝ }
 {
-    let computes = bits::minus(state.computes, blocked(rows, ROWS * r, state.waiting));
+    let computes = unblocked(rows, ROWS * r, state.waiting, state.computes);
     if computes != 0 {
         return remaining::compute(state, bits::first(computes));
     }

@@ -17,14 +17,11 @@ use Rattle.sequencing.proofs.NextLaws.{
 use Rattle.sequencing.proofs.next.Statement.{statement}
 use Rattle.sequencing.proofs.next.Tie as tie
 
-mul-blocked : tie.Need-mul-blocked
-mul-blocked c = search needs
+mul-unblocked : tie.Need-mul-unblocked
+mul-unblocked c = search needs
 
-blocked-requires : tie.Need-blocked-requires
-blocked-requires c κs = search rows-ready
-
-minus-requires : tie.Need-minus-requires
-minus-requires c κs = search needs
+unblocked-requires : tie.Need-unblocked-requires
+unblocked-requires c κs = search rows-ready
 
 first-requires : tie.Need-first-requires
 first-requires c κs = search needs
@@ -63,9 +60,8 @@ pub next-spec : {M : Type 1} → statement M
 next-spec =
     tie.close
     (tie.spec
-    mul-blocked
-    blocked-requires
-    minus-requires
+    mul-unblocked
+    unblocked-requires
     first-requires
     compute-requires
     returns
