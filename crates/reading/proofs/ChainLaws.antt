@@ -9,10 +9,10 @@ use lib.ListN.{getD}
 use Rattle.refusals.specs.declared.Refusal.{Refusal}
 use Rattle.grammar.specs.declared.Verdict.{Verdict}
 use Rattle.grammar.specs.declared.Verdict.the-variants.{Good, Refused}
-use Rattle.grammar.specs.Table.{symbols, kind, attributes, symbolAt, lengthAt, functionsAt, argumentWords}
+use Rattle.grammar.specs.Table.{symbols, kind, attributes, symbolAt, lengthAt, functionsAt}
 use Rattle.grammar.specs.Verdicts.{_then_, each}
 use Rattle.grammar.specs.Reading.{present, ranged, symbolFault}
-use Rattle.access.specs.ByPlace.{symbolTest, nextFunction, functionFrom}
+use Rattle.access.specs.ByPlace.{symbolTest, functionFrom}
 use Rattle.access.proofs.Laws.{stops, passes, each-none, each-more, each-stop, each-end, ranged-of, leb-of, ltb-of, right-of, count-of, ranged-le}
 use Rattle.reading.specs.Parts.{maskFault, targetFault, operandsFault, rightFault, shapeFault}
 
@@ -65,10 +65,6 @@ module _ (g : List ℕ) (f t occurrences undefined : ℕ) (u v : Verdict) (d : u
 
   pub operands-answer : (w : Verdict) → v ≡ Good → w ≡ operandsFault g f occurrences → w ≡ functionFrom g f occurrences undefined
   operands-answer w l i = passes _ _ u w d e (passes _ _ v w target l i) ∙ sym cut
-
--- where the next function starts, by the operation that the code holds
-pub next-of : (g : List ℕ) (f op n : ℕ) → op ≡ getD g (f + 1) 0 → n ≡ argumentWords op → f + 2 + n ≡ nextFunction g f
-next-of g f op n d e = ap (λ (k : ℕ). f + 2 + k) (e ∙ ap argumentWords d)
 
 -- ---- a rule's shape: its length, its symbols, then the number of its functions
 

@@ -21,21 +21,23 @@ use Rattle.grammar.proofs.AcceptedSymbols.{ranged-there}
 use Rattle.grammar.proofs.VerdictLaws.{then-first, then-second, unless-passes}
 use Rattle.access.specs.ByPlace.{nextFunction, functionFrom, undefinedAfter, functionsFrom}
 use Rattle.access.proofs.Laws.{refused-good, each-none, each-more, each-stop, each-end, member-past}
-use Rattle.reading.specs.Parts.{FunctionsRead}
+use Rattle.reading.specs.Parts.{FunctionRead, FunctionsRead}
 
-module _ (g : List ℕ) (f occurrences undefined : ℕ) (v : Verdict) (e : v ≡ functionFrom g f occurrences undefined) (k : v ≡ Good) where
-  -- the target of a function that passes is there and below 64, and its operation is there
-  pub operation-there : (q : ℕ) → q ≡ f + 1 → q < length g
-  unfolding functionFrom
-  operation-there q i = subst (λ (n : ℕ). n < length g) (sym i) (ranged-there g (f + 1) _ (then-first _ _ (then-second _ _ (then-second _ _ (then-second _ _ (sym e ∙ k))))))
+-- the operation of a function that passes is there
+pub operation-there : (g : List ℕ) (f occurrences undefined : ℕ) (v : Verdict) → v ≡ functionFrom g f occurrences undefined → v ≡ Good → f + 1 < length g
+unfolding functionFrom
+operation-there g f occurrences undefined v e k =
+    ranged-there g (f + 1) _ (then-first _ _ (then-second _ _ (then-second _ _ (then-second _ _ (sym e ∙ k)))))
 
+-- and its target is there and below 64
+module _ (g : List ℕ) (f occurrences undefined : ℕ) (v : Verdict) (n : ℕ) (e : FunctionRead g f occurrences undefined v n) (k : v ≡ Good) where
   pub target-there : f < length g
-  target-there = omega (arith, operation-there (f + 1) refl)
+  target-there = omega (arith, operation-there g f occurrences undefined v (e .answers) k)
 
   pub target-fits : (w : ℕ) → occurrences < 2 ^ 64 → w ≡ getD g f 0 → w < 64
   unfolding functionFrom
   target-fits w h d =
-      let t : T (hasb (getD g f 0) occurrences) = unless-passes _ (NoOccurrence f) (then-first _ _ (then-second _ _ (sym e ∙ k))) in
+      let t : T (hasb (getD g f 0) occurrences) = unless-passes _ (NoOccurrence f) (then-first _ _ (then-second _ _ (sym (e .answers) ∙ k))) in
       ⊎-elim (λ l. l)
       (λ l. absurd (subst (λ (b : Bool). T b) (sym (member-past (getD g f 0) occurrences h (omega arith))) t)) (below-or-not w 64)
 
@@ -57,33 +59,34 @@ module _ (g : List ℕ) (p occurrences defining n : ℕ) where
         → v ≡ functionFrom g (functionAt g p k) occurrences (undefinedAfter g p k defining)
     test v e = e ∙ ap₂ (λ (x y : ℕ). functionFrom g x occurrences y) (at .place) (at .left)
 
-    pub turn : (v : Verdict) (w next rest : ℕ) → k < n → v ≡ functionFrom g f occurrences undefined → v ≡ Good → w ≡ getD g f 0
-        → rest ≡ remove w undefined → next ≡ nextFunction g f → next ≤ f + 6 → AtFunction g p occurrences defining n next rest (k + 1)
+    pub turn : (v : Verdict) (m w rest : ℕ) → k < n → FunctionRead g f occurrences undefined v m → v ≡ Good → w ≡ getD g f 0
+        → rest ≡ remove w undefined → AtFunction g p occurrences defining n (f + m) rest (k + 1)
     unfolding undefinedAfter functionAt
-    turn v w next rest l e h d r m near =
+    turn v m w rest l e h d r =
+        let next : f + m ≡ nextFunction g f = omega (arith, e .words h) in
         record {
           inside = omega arith;
           passed =
-              each-more k (λ j. functionFrom g (functionAt g p j) occurrences (undefinedAfter g p j defining)) v (at .passed) (test v e) h;
-          place = m ∙ (ap (nextFunction g) (at .place) ∙ sym (ap (functionAt g p) (add-one k)));
+              each-more k (λ j. functionFrom g (functionAt g p j) occurrences (undefinedAfter g p j defining)) v (at .passed) (test v (e .answers)) h;
+          place = next ∙ (ap (nextFunction g) (at .place) ∙ sym (ap (functionAt g p) (add-one k)));
           left =
               r
               ∙ (ap₂ remove (d ∙ ap (λ (x : ℕ). getD g x 0) (at .place)) (at .left)
               ∙ sym (ap (λ (j : ℕ). undefinedAfter g p j defining) (add-one k)));
-          near = omega (arith, at .near);
+          near = omega (arith, at .near, e .few);
         }
 
     module _ (q : n ≡ functionsAt g p) where
-      pub stop : (v s : Verdict) (m : Refusal) (next rest : ℕ) → k < n → v ≡ functionFrom g f occurrences undefined → v ≡ Refused m → s ≡ v
+      pub stop : (v s : Verdict) (m : Refusal) (size next rest : ℕ) → k < n → FunctionRead g f occurrences undefined v size → v ≡ Refused m → s ≡ v
           → FunctionsRead g p occurrences defining s next rest
       unfolding functionsFrom
-      stop v s m next rest h e i d =
+      stop v s m size next rest h e i d =
           record {
             answers =
                 d
                 ∙ each-stop (functionsAt g p) k
-                (λ j. functionFrom g (functionAt g p j) occurrences (undefinedAfter g p j defining)) v m (omega arith) (at .passed) (test v e)
-                i;
+                (λ j. functionFrom g (functionAt g p j) occurrences (undefinedAfter g p j defining)) v m (omega arith) (at .passed)
+                (test v (e .answers)) i;
             goes = λ y. absurd (refused-good s m (d ∙ i) y);
             left = λ y. absurd (refused-good s m (d ∙ i) y);
           }

@@ -2,22 +2,22 @@
 -- Computed: no demand rests on it. Assumes nothing.
 use Prim.Native.Nat.{ℕ, _+_, _^_, _≤_}
 use mathlib.Core.Path.{_≡_}
-use mathlib.Core.Bool.{true}
+use mathlib.Core.Bool.{Bool}
 use mathlib.Core.List.{List}
 use lib.Dec.{ltb, leb, eqb}
 use lib.ListN.{length}
-use Rattle.basics.specs.Tests.{_or_}
+use Rattle.basics.specs.Tests.{_and_, _or_}
 use Rattle.basics.specs.Lists.{word}
 use Rattle.bits.specs.Bit.{hasb}
 use Rattle.refusals.specs.declared.Refusal.the-variants.{WrongClass, NoOccurrence, NotDefining, Undefined, LeftOver}
 use Rattle.grammar.specs.declared.Verdict.{Verdict}
-use Rattle.grammar.specs.declared.Verdict.the-variants.{Good}
+use Rattle.grammar.specs.declared.Verdict.the-variants.{Good, Refused}
 use Rattle.grammar.specs.Limits.{longestRight, mostFunctions, lastOperation}
-use Rattle.grammar.specs.Table.{symbols, symbolAt, attributes, mask, nonterminal, argumentWords, isConstant, lengthAt, functionsAt}
+use Rattle.grammar.specs.Table.{symbols, symbolAt, attributes, mask, nonterminal, argumentWords, lengthAt, functionsAt}
 use Rattle.grammar.specs.Verdicts.{_then_, unless, each}
 use Rattle.grammar.specs.Reading.{ranged, header, symbolFault, startClass, readTable}
 use Rattle.access.specs.Offsets.{offsetsFor}
-use Rattle.access.specs.ByPlace.{symbolTest, argumentFrom, argumentsFrom, functionsFrom, undefinedAfter, nextRule, leaves}
+use Rattle.access.specs.ByPlace.{symbolTest, argumentsFrom, functionFrom, functionsFrom, undefinedAfter, nextRule, leaves}
 
 -- the mask of symbol x, and its class
 unfoldable pub maskFault : List ℕ → ℕ → Verdict
@@ -34,19 +34,21 @@ unfoldable pub targetFault : ℕ → ℕ → ℕ → ℕ → Verdict
 targetFault f t occurrences undefined = unless (hasb t occurrences) (NoOccurrence f) then unless (hasb t undefined) (NotDefining f)
 
 -- four words that are all occurrences
-pub record FourOccur (occurrences a b c d : ℕ) : Type 0 where
-  pub first : hasb a occurrences ≡ true
-  pub second : hasb b occurrences ≡ true
-  pub third : hasb c occurrences ≡ true
-  pub fourth : hasb d occurrences ≡ true
-
--- the argument words of the function at word f, by its operation
-unfoldable pub argumentsBy : List ℕ → ℕ → ℕ → ℕ → Verdict
-argumentsBy g f op occurrences = each (argumentWords op) (λ j. argumentFrom g (f + 2 + j) (isConstant op) occurrences)
+unfoldable pub fourOccur : ℕ → ℕ → ℕ → ℕ → ℕ → Bool
+fourOccur occurrences a b c d = hasb a occurrences and hasb b occurrences and hasb c occurrences and hasb d occurrences
 
 -- what follows the target of the function at word f
 unfoldable pub operandsFault : List ℕ → ℕ → ℕ → Verdict
 operandsFault g f occurrences = ranged g (f + 1) (leb (word g (f + 1)) lastOperation) then argumentsFrom g f occurrences
+
+-- how many words the function at word f has: its target, its operation and its arguments
+abbrev pub functionWords : List ℕ → ℕ → ℕ
+functionWords g f = 2 + argumentWords (word g (f + 1))
+
+-- a number of words where the verdict is good, else none
+unfoldable pub wordsIf : Verdict → ℕ → ℕ
+wordsIf Good n = n
+wordsIf (Refused m) n = 0
 
 -- n symbols of a right side, from word p on
 unfoldable pub rightFault : List ℕ → ℕ → ℕ → Verdict
@@ -62,6 +64,12 @@ shapeFault g p =
 -- the end of the rules, at word p, where the last one left the set `undefined` without functions
 unfoldable pub endingFault : List ℕ → ℕ → ℕ → Verdict
 endingFault g p undefined = unless (eqb undefined 0) (Undefined p) then unless (leb (length g) p) (LeftOver p)
+
+-- what reading the function at word f answers, and how many words it has where the answer is good
+pub record FunctionRead (g : List ℕ) (f occurrences undefined : ℕ) (v : Verdict) (n : ℕ) : Type 0 where
+  pub answers : v ≡ functionFrom g f occurrences undefined
+  pub words : v ≡ Good → n ≡ functionWords g f
+  pub few : n ≤ 6
 
 -- What reading the functions of the rule at word p answers, and what it hands on where the answer is good: where the next rule starts, and the
 -- defining occurrences without a function.

@@ -7,19 +7,18 @@ use super::words::unless;
 use grammar::Verdict;
 use refusals::Refusal;
 ghost use mathlib.Core.Path.{_≡_};
-ghost use mathlib.Core.Bool.{true};
+ghost use mathlib.Core.Bool.{cond};
 ghost use Prim.Native.Nat.{_+_, _≤_, _<_};
 ghost use lib.ListN.{length};
 ghost use Rattle.bits.specs.Bit as bit;
 ghost use Rattle.basics.specs.Tests.{_and_, _or_};
-ghost use Rattle.grammar.specs.declared.Verdict.the-variants as verdict;
 ghost use Rattle.grammar.specs.Table as table;
 ghost use Rattle.access.specs.ByPlace as places;
 ghost use Rattle.reading.specs.Parts as steps;
 
 // Whether four words are all occurrences: each is below 64, and the set of them has nothing that the occurrences lack.
 fn four_occur(occurrences: u64, a: usize, b: usize, c: usize, d: usize) -> bool
-    ensures { λ r. ⌜ (r ≡ true → steps.FourOccur occurrences a b c d) ⌝ }
+    ensures { λ r. ⌜ r ≡ steps.fourOccur occurrences a b c d ⌝ }
 {
     if a >= 64 {
         return false;
@@ -37,29 +36,44 @@ fn four_occur(occurrences: u64, a: usize, b: usize, c: usize, d: usize) -> bool
     bits::minus(four, occurrences) == 0
 }
 
-// Whether the argument words of operation op surely pass, for a function of six words that are there. An operation of fewer than four arguments has
-// some of them tested twice.
-fn arguments_pass(words: &[u16], f: usize, op: usize, occurrences: u64) -> bool
-    requires { ⌜ (f + 6 ≤ length (now words)) × (op ≤ 8) ⌝ }
-    ensures { λ r. ⌜ (r ≡ true → steps.argumentsBy (now (words .entry)) f op occurrences ≡ verdict.Good) ⌝ }
+// So many words where a test passed, none where it failed.
+fn words_where(passed: bool, words: usize) -> usize
+    ensures { λ r. ⌜ r ≡ cond passed words 0 ⌝ }
 {
-    if op == 0 {
-        return true;
+    if passed {
+        return words;
     }
+    0
+}
+
+// How many words the function at word f has, of six words that are there, where its operation and its arguments pass; none where they do not.
+// Each number of words is answered in a branch of its own, so that the next function's place need not wait for the operation to be read.
+// An operation of fewer than four arguments has some of them tested twice.
+fn operand_words(words: &[u16], f: usize, occurrences: u64) -> usize
+    requires { ⌜ f + 6 ≤ length (now words) ⌝ }
+    ensures { λ r. ⌜ r ≡ steps.wordsIf (steps.operandsFault (now (words .entry)) f occurrences) (steps.functionWords (now (words .entry)) f) ⌝ }
+{
+    let op = access::known(words, f + 1);
     let a = access::known(words, f + 2);
     let b = access::known(words, f + 3);
     let c = access::known(words, f + 4);
     let d = access::known(words, f + 5);
-    if op == 1 {
-        return four_occur(occurrences, a, a, a, a);
-    }
-    if op <= 6 {
-        return four_occur(occurrences, a, b, a, b);
+    if op == 8 {
+        return words_where(four_occur(occurrences, a, b, c, d), 6);
     }
     if op == 7 {
-        return four_occur(occurrences, a, b, c, c);
+        return words_where(four_occur(occurrences, a, b, c, c), 5);
     }
-    four_occur(occurrences, a, b, c, d)
+    if op > 8 {
+        return 0;
+    }
+    if op >= 2 {
+        return words_where(four_occur(occurrences, a, b, a, b), 4);
+    }
+    if op == 1 {
+        return words_where(four_occur(occurrences, a, a, a, a), 3);
+    }
+    3
 }
 
 // Whether a target is an occurrence that a function may define.
@@ -72,19 +86,15 @@ fn may_define(occurrences: u64, undefined: u64, target: usize) -> bool
     false
 }
 
-// Whether the function at word f, of six words that are there, surely passes.
-fn passes(words: &[u16], f: usize, occurrences: u64, undefined: u64) -> bool
+// How many words the function at word f has, of six words that are there, where it passes; none where it does not.
+fn function_words(words: &[u16], f: usize, occurrences: u64, undefined: u64) -> usize
     requires { ⌜ f + 6 ≤ length (now words) ⌝ }
-    ensures { λ r. ⌜ (r ≡ true → places.functionFrom (now (words .entry)) f occurrences undefined ≡ verdict.Good) ⌝ }
+    ensures { λ r. ⌜ r ≡ steps.wordsIf (places.functionFrom (now (words .entry)) f occurrences undefined) (steps.functionWords (now (words .entry)) f) ⌝ }
 {
-    if !may_define(occurrences, undefined, access::known(words, f)) {
-        return false;
+    if may_define(occurrences, undefined, access::known(words, f)) {
+        return operand_words(words, f, occurrences);
     }
-    let op = access::known(words, f + 1);
-    if op > 8 {
-        return false;
-    }
-    arguments_pass(words, f, op, occurrences)
+    0
 }
 
 // Whether an argument word is a constant or an occurrence.
@@ -166,25 +176,34 @@ fn word_by_word(words: &[u16], f: usize, occurrences: u64, undefined: u64) -> Ve
     operands_fault(words, f, occurrences)
 }
 
-// The function at word f, where the defining occurrences in `undefined` have no function yet.
-fn function_fault(words: &[u16], f: usize, occurrences: u64, undefined: u64) -> Verdict
-    requires { ⌜ f < 1000000 ⌝ }
-    ensures { λ r. ⌜ r ≡ places.functionFrom (now (words .entry)) f occurrences undefined ⌝ }
-{
-    if f + 6 <= words.len() {
-        if passes(words, f, occurrences, undefined) {
-            return Verdict::Good;
-        }
-    }
-    word_by_word(words, f, occurrences, undefined)
+// What reading a function hands on: how many words it has.
+struct Function {
+    verdict: Verdict,
+    words: usize,
 }
 
-// Where the function after the one at word f starts, whose operation is there.
-fn function_after(words: &[u16], f: usize) -> usize
-    requires { ⌜ (f < 1000000) × (f + 1 < length (now words)) ⌝ }
-    ensures { λ r. ⌜ (r ≡ places.nextFunction (now (words .entry)) f) × (r ≤ f + 6) ⌝ }
+// The function at word f, where the defining occurrences in `undefined` have no function yet.
+fn function_fault(words: &[u16], f: usize, occurrences: u64, undefined: u64) -> Function
+    requires { ⌜ f < 1000000 ⌝ }
+    ensures { λ r. ⌜ steps.FunctionRead (now (words .entry)) f occurrences undefined (r .verdict) (r .words) ⌝ }
 {
-    f + 2 + access::argument_words(access::known(words, f + 1))
+    if f + 6 <= words.len() {
+        let whole = function_words(words, f, occurrences, undefined);
+        if whole != 0 {
+            return Function {
+                verdict: Verdict::Good,
+                words: whole,
+            };
+        }
+    }
+    let verdict = word_by_word(words, f, occurrences, undefined);
+    let Verdict::Good = verdict else {
+        return Function { verdict, words: 0 };
+    };
+    Function {
+        verdict: Verdict::Good,
+        words: 2 + access::argument_words(access::known(words, f + 1)),
+    }
 }
 
 // What reading a rule hands on: where the next one starts, and the defining occurrences that got no function.
@@ -216,12 +235,13 @@ pub fn functions_fault(words: &[u16], p: usize, occurrences: u64, defining: u64)
     let mut f = access::first_function(words, p);
     let mut undefined = defining;
     for k in 0..count {
-        let fault = function_fault(words, f, occurrences, undefined);
+        let function = function_fault(words, f, occurrences, undefined);
+        let fault = function.verdict;
         let Verdict::Good = fault else {
             return stopped(fault);
         };
         undefined = bits::without(undefined, access::known(words, f));
-        f = function_after(words, f);
+        f = f + function.words;
     }
     Rule {
         verdict: Verdict::Good,

@@ -1,21 +1,21 @@
--- `reading::functions::four_occur` meets its contract: each of the four is a member of their set, and so of the occurrences where the set has nothing
--- besides them. Assumes nothing.
+-- `reading::functions::four_occur` meets its contract: a word past 64 is a member of no set, and else the four are occurrences exactly where the set of
+-- them has nothing besides. Assumes nothing.
 use borrow.Author.Needs.{needs}
-use Rattle.reading.proofs.WholeLaws.{nothing-occurs, four-inside}
+use Rattle.reading.proofs.WholeLaws.{first-past, second-past, third-past, fourth-past, four-inside}
 use Rattle.reading.proofs.functions.four_occur.Statement.{statement}
 use Rattle.reading.proofs.functions.four_occur.Tie as tie
 
 returns : tie.Need-returns
-returns c = search nothing-occurs
+returns c = search (first-past, needs)
 
 returns-2 : tie.Need-returns-2
-returns-2 c = search nothing-occurs
+returns-2 c = search (second-past, needs)
 
 returns-3 : tie.Need-returns-3
-returns-3 c = search nothing-occurs
+returns-3 c = search (third-past, needs)
 
 returns-4 : tie.Need-returns-4
-returns-4 c = search nothing-occurs
+returns-4 c = search (fourth-past, needs)
 
 single-requires : tie.Need-single-requires
 single-requires c κs = search needs

@@ -1,9 +1,8 @@
 -- `reading::functions::functions_fault` meets its contract. The invariant AtFunction: the functions before k passed, the next starts at f, and the set
 -- holds what they left undefined. A target that passed is an occurrence, so it is below 64 and can leave the set. Assumes nothing.
 use Prim.Native.Nat.{_-_}
-use native.Mathlib.Omega.{arith}
+use Rattle.reading.proofs.FunctionLoop.{AtFunction, start, turn, stop, ends, target-there, target-fits}
 use borrow.Author.Needs.{needs}
-use Rattle.reading.proofs.FunctionLoop.{AtFunction, start, turn, stop, ends, target-there, target-fits, operation-there}
 use Rattle.reading.proofs.functions.functions_fault.Statement.{statement}
 use Rattle.reading.proofs.functions.functions_fault.Tie as tie
 
@@ -43,8 +42,8 @@ known-requires c κs = search target-there
 without-requires : tie.Need-without-requires Inv-loop μ-loop
 without-requires c κs = search (target-fits, needs)
 
-function-after-requires : tie.Need-function-after-requires Inv-loop μ-loop
-function-after-requires c κs = (omega arith, search (operation-there, needs))
+add-f : tie.Need-add-f Inv-loop μ-loop
+add-f c = search needs
 
 add-k : tie.Need-add-k Inv-loop μ-loop
 add-k c = search needs
@@ -74,7 +73,7 @@ functions-fault-spec =
     returns
     known-requires
     without-requires
-    function-after-requires
+    add-f
     add-k
     loop-less
     loop-again
