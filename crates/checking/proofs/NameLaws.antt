@@ -97,7 +97,7 @@ module _ (g t : List ℕ) (n m : ℕ) (h : usedSlots g t n ≤ 7) where
       count-on 1 7 (λ i. namesNode g t m (8 * n + i)) ∙ omega (arith, none, seven)
 
 -- one slot more
-slot-count : (t : List ℕ) (n m i : ℕ) → slotNames t n m (i + 1) ≡ slotNames t n m i + cond (eqb (child t n (suc i)) m) 1 0
+pub slot-count : (t : List ℕ) (n m i : ℕ) → slotNames t n m (i + 1) ≡ slotNames t n m i + cond (eqb (child t n (suc i)) m) 1 0
 unfolding slotNames count
 slot-count t n m i = ap (λ (k : ℕ). count k (λ i. eqb (child t n (suc i)) m)) (add-one i)
 

@@ -84,7 +84,7 @@ known-below g t n r k e h =
     (ltb→lt (ruleOf t n) (rules g)
     (subst (λ (b : Bool). T b) (chosen (appliesRule t n) _ _ (lt→ltb (ruleOf t n) terminalMark (subst (λ (x : ℕ). x < terminalMark) e h))) k))
 
-starts-there : (g offsets : List ℕ) (r : ℕ) → Ready g offsets → r < rules g → getD offsets r 0 ≡ ruleAt g r
+pub starts-there : (g offsets : List ℕ) (r : ℕ) → Ready g offsets → r < rules g → getD offsets r 0 ≡ ruleAt g r
 starts-there g offsets r w h = offset-is g offsets r _ (w .offsetsAre) h refl
 
 -- the left symbol and the right length of a rule that the offsets name

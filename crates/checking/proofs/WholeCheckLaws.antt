@@ -24,6 +24,7 @@ use Rattle.grammar.specs.declared.Verdict.the-variants.{Good, Refused}
 use Rattle.grammar.specs.Table.{start, rules, rightLength}
 use Rattle.grammar.proofs.AcceptedTable.{accepted}
 use Rattle.grammar.specs.Verdicts.{_then_, unless, each}
+use Rattle.access.proofs.Laws.{each-stop}
 use Rattle.grammar.proofs.VerdictLaws.{then-first, then-second, unless-passes, each-at}
 use Rattle.trees.specs.Tree.{terminalMark, mostNodes, nodes, ruleOf, appliesRule, child, usedSlots, symbolAtNode, valueWords}
 use Rattle.trees.specs.Checking.{
@@ -37,7 +38,7 @@ use Rattle.trees.specs.Checking.{
   onceChild,
   checkTree,
 }
-use Rattle.checking.specs.Walk.{Ready, Known, Names, childrenFault, namedFault}
+use Rattle.checking.specs.Walk.{Ready, Known, Names, childrenFault, namedFault, OneWalk}
 use Rattle.checking.proofs.NodeTestLaws.{known-below}
 use Rattle.checking.proofs.NameLaws.{names-same}
 
@@ -70,6 +71,9 @@ some-node t u e f = size-shows t u e f .0
 
 pub few-nodes : (t : List ℕ) (u : Bool) → u ≡ sizeFits t → u ≡ true → nodes t ≤ mostNodes
 few-nodes t u e f = size-shows t u e f .1
+
+pub fits-true : (t : List ℕ) (u : Bool) → u ≡ sizeFits t → u ≡ true → true ≡ sizeFits t
+fits-true t u e f = sym f ∙ e
 
 -- a known node uses at most seven slots
 used-seven : (g offsets t : List ℕ) (n : ℕ) → Ready g offsets → T (knownWord g t n) → usedSlots g t n ≤ 7
@@ -196,14 +200,39 @@ past-17 g t named v w z few p h q m e f =
     past-16 g t v w p h q
     ∙ good-then (each (nodes t) (λ n. unless (onceChild g t n) (NotOneParent n))) (from-18 t v) (sym (names-same g t named few m) ∙ (sym e ∙ f))
 
-pub answer-18 : (g t named : List ℕ) (v : ℕ) (w z : Verdict) → nodes t ≤ mostNodes → Passed15 g t v
+pub answer-18 : (g t named : List ℕ) (v : ℕ) (w z r : Verdict) → nodes t ≤ mostNodes → Passed15 g t v
     → w ≡ each (nodes t) (λ n. childrenFault g t n) → w ≡ Good → Names g t (nodes t) named → z ≡ each (nodes t) (λ n. namedFault named n)
-    → z ≡ Good → v < 8 * nodes t → Refused ValuesTooShort ≡ checkTree g t v
-answer-18 g t named v w z few p h q m e f l =
-    sym (past-17 g t named v w z few p h q m e f ∙ unless-not _ _ (lt-leb (valueWords t) v l))
+    → z ≡ Good → r ≡ unless (leb (8 * nodes t) v) ValuesTooShort → r ≡ checkTree g t v
+answer-18 g t named v w z r few p h q m e f l = l ∙ sym (past-17 g t named v w z few p h q m e f)
 
-pub answer-good : (g t named : List ℕ) (v : ℕ) (w z : Verdict) → nodes t ≤ mostNodes → Passed15 g t v
-    → w ≡ each (nodes t) (λ n. childrenFault g t n) → w ≡ Good → Names g t (nodes t) named → z ≡ each (nodes t) (λ n. namedFault named n)
-    → z ≡ Good → 8 * nodes t ≤ v → Good ≡ checkTree g t v
-answer-good g t named v w z few p h q m e f l =
-    sym (past-17 g t named v w z few p h q m e f ∙ unless-yes _ _ (le-leb (valueWords t) v l))
+-- 18
+pub values-short : (n v : ℕ) → v < 8 * n → Refused ValuesTooShort ≡ unless (leb (8 * n) v) ValuesTooShort
+values-short n v h = sym (unless-not _ _ (lt-leb (8 * n) v h))
+
+pub values-enough : (n v : ℕ) → 8 * n ≤ v → Good ≡ unless (leb (8 * n) v) ValuesTooShort
+values-enough n v h = sym (unless-yes _ _ (le-leb (8 * n) v h))
+
+-- the answers of the one walk
+module _ (g t : List ℕ) (v orphan : ℕ) (u : Bool) (e : u ≡ sizeFits t) (f : u ≡ true) (w : orphan ≤ nodes t → OneWalk g t orphan) where
+  past-walk : orphan ≤ nodes t → checkTree g t v ≡ from-17 g t v
+  past-walk h =
+      past-12 g t v u e f
+      ∙ (good-then (each (nodes t) (λ n. nodeFault g t n)) (from-15 g t v) (w h .passes)
+      ∙ (good-then (unless (rootIsStart g t) RootNotStart) (from-16 g t v) (unless-yes _ _ (w h .root))
+      ∙ good-then (each (nodes t) (λ n. unless (childrenFit g t n) (ChildDiffers n))) (from-17 g t v) (w h .children)))
+
+  pub answer-lost : orphan < nodes t → Refused (NotOneParent orphan) ≡ checkTree g t v
+  answer-lost h =
+      let l : orphan ≤ nodes t = omega arith in
+      sym (past-walk l
+      ∙ bad-then (each (nodes t) (λ n. unless (onceChild g t n) (NotOneParent n))) (from-18 t v) (NotOneParent orphan)
+      (sym (each-stop (nodes t) orphan (λ n. unless (onceChild g t n) (NotOneParent n)) (Refused (NotOneParent orphan)) (NotOneParent orphan) h (w l .parents)
+      (sym (unless-not _ _ (w l .lost h))) refl)))
+
+  pub answer-whole : (r : Verdict) → orphan ≡ nodes t → r ≡ unless (leb (8 * nodes t) v) ValuesTooShort → r ≡ checkTree g t v
+  answer-whole r q k =
+      let l : orphan ≤ nodes t = omega arith in
+      k
+      ∙ sym (past-walk l
+      ∙ good-then (each (nodes t) (λ n. unless (onceChild g t n) (NotOneParent n))) (from-18 t v)
+      (subst (λ (x : ℕ). each x (λ n. unless (onceChild g t n) (NotOneParent n)) ≡ Good) q (w l .parents)))

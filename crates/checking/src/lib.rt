@@ -1,6 +1,7 @@
-// The check of a tree against a grammar: refusals 12 to 18, each in a walk of its own, but 13 and 14 together.
-// The grammar is a table that reading accepted, with the offsets of its rules.
+// The check of a tree against a grammar: refusals 12 to 18. One walk is enough where 13 to 16 pass and no node is a child twice; where it is not sure,
+// each refusal has a walk of its own, but 13 and 14 together. The grammar is a table that reading accepted, with the offsets of its rules.
 mod nodes;
+mod one_walk;
 
 use access::known;
 use grammar::Offsets;
@@ -9,9 +10,12 @@ use refusals::Refusal;
 use trees::MOST_NODES;
 ghost use mathlib.Core.Path.{_≡_};
 ghost use Prim.Native.Nat.{_+_, _*_, _≤_, _<_};
+ghost use mathlib.Core.Bool.{true};
+ghost use lib.Dec.{leb};
 ghost use lib.ListN.{length};
+ghost use Rattle.refusals.specs.declared.Refusal.the-variants.{ValuesTooShort};
 ghost use Rattle.grammar.specs.declared.Verdict.the-variants.{Good};
-ghost use Rattle.grammar.specs.Verdicts.{each};
+ghost use Rattle.grammar.specs.Verdicts.{unless, each};
 ghost use Rattle.trees.specs.Tree as tree;
 ghost use Rattle.trees.specs.Checking as check;
 ghost use Rattle.checking.specs.Walk as walk;
@@ -123,14 +127,23 @@ fn names_fault(named: &Names, nodes: usize) -> Verdict
     Verdict::Good
 }
 
-// The whole check, with values of this length.
-pub fn check(words: &[u16], offsets: &Offsets, t: &[u16], values: usize) -> Verdict
+// 18: eight values for each node.
+fn values_fault(nodes: usize, values: usize) -> Verdict
+    requires { ⌜ nodes ≤ tree.mostNodes ⌝ }
+    ensures { λ r. ⌜ r ≡ unless (leb (8 * nodes) values) ValuesTooShort ⌝ }
+{
+    if values < 8 * nodes {
+        return Verdict::Refused(Refusal::ValuesTooShort);
+    }
+    Verdict::Good
+}
+
+// The check walk by walk, of a tree that passed 12.
+fn by_walks(words: &[u16], offsets: &Offsets, t: &[u16], values: usize) -> Verdict
     requires { ⌜ walk.Ready (now words) (now offsets) ⌝ }
+    requires { ⌜ true ≡ check.sizeFits (now t) ⌝ }
     ensures { λ r. ⌜ r ≡ check.checkTree (now (words .entry)) (now (t .entry)) values ⌝ }
 {
-    if !size_fits(t) {
-        return Verdict::Refused(Refusal::TreeSize);
-    }
     let nodes = t.len() / 8;
     let first = nodes_fault(words, offsets, t, nodes);
     let Verdict::Good = first else {
@@ -148,8 +161,24 @@ pub fn check(words: &[u16], offsets: &Offsets, t: &[u16], values: usize) -> Verd
     let Verdict::Good = third else {
         return third;
     };
-    if values < 8 * nodes {
-        return Verdict::Refused(Refusal::ValuesTooShort);
+    values_fault(nodes, values)
+}
+
+// The whole check, with values of this length.
+pub fn check(words: &[u16], offsets: &Offsets, t: &[u16], values: usize) -> Verdict
+    requires { ⌜ walk.Ready (now words) (now offsets) ⌝ }
+    ensures { λ r. ⌜ r ≡ check.checkTree (now (words .entry)) (now (t .entry)) values ⌝ }
+{
+    if !size_fits(t) {
+        return Verdict::Refused(Refusal::TreeSize);
     }
-    Verdict::Good
+    let nodes = t.len() / 8;
+    let orphan = one_walk::first_orphan(words, offsets, t, nodes);
+    if orphan < nodes {
+        return Verdict::Refused(Refusal::NotOneParent(orphan));
+    }
+    if orphan == nodes {
+        return values_fault(nodes, values);
+    }
+    by_walks(words, offsets, t, values)
 }

@@ -18,7 +18,7 @@ ghost use Rattle.trees.specs.Checking as check;
 ghost use Rattle.checking.specs.Walk as walk;
 
 // Symbol x of an accepted grammar is a nonterminal.
-fn nonterminal(words: &[u16], x: usize) -> bool
+pub fn nonterminal(words: &[u16], x: usize) -> bool
     requires { ⌜ (readTable (now words) ≡ Good) × (x < table.symbols (now words)) ⌝ }
     ensures { λ r. ⌜ r ≡ table.nonterminal (now (words .entry)) x ⌝ }
 {
@@ -26,7 +26,7 @@ fn nonterminal(words: &[u16], x: usize) -> bool
 }
 
 // The rule at word p: its right length, and its symbol at a position on the right.
-fn right_length(words: &[u16], p: usize) -> usize
+pub fn right_length(words: &[u16], p: usize) -> usize
     requires { ⌜ p + 1 < length (now words) ⌝ }
     ensures { λ r. ⌜ r ≡ table.lengthAt (now (words .entry)) p ⌝ }
     ensures { λ r. ⌜ r < 65536 ⌝ }
