@@ -6,15 +6,14 @@ use mathlib.Core.Logic.{⊎-elim}
 use mathlib.Core.Bool.{Bool}
 use mathlib.Core.List.{List}
 use native.Mathlib.Omega.{arith}
-use lib.Dec.{T, leb, eqb→eq, leb→le, le→leb, T-not}
+use lib.Dec.{T, eqb→eq, le→leb, T-not, not-T}
 use Rattle.basics.specs.Lists.{word}
-use Rattle.bits.specs.Bit.{hasb, raised, common, field, lowest}
-use Rattle.bits.proofs.BitLaws.{bit-below, bit-has, bit-lacks}
+use Rattle.bits.specs.Bit.{hasb, raised, common, minus, field}
+use Rattle.bits.proofs.BitLaws.{bit-below, bit-has}
 use Rattle.bits.proofs.CollectLaws.{collect-lt}
-use Rattle.bits.proofs.LowestLaws.{IsLowest, lowest-is}
 use Rattle.bits.proofs.ShiftLaws.{field-lt, has-field, has-raised, raised-low}
-use Rattle.bits.proofs.MemberLaws.{hasb-collect, hasb-below, none-left, no-member, common-both, both-common}
-use Rattle.basics.proofs.TestLaws.{and-intro, and-left, and-right, eq-T, true-T, false-T, below-or-not}
+use Rattle.bits.proofs.MemberLaws.{hasb-collect, hasb-below, none-left, no-member, common-both, both-common, minus-both, both-minus}
+use Rattle.basics.proofs.TestLaws.{and-intro, and-left, and-right, eq-T, true-T, below-or-not}
 use Rattle.grammar.specs.Limits.{mostSymbols}
 use Rattle.grammar.specs.Table.{symbols}
 use Rattle.sets.specs.Visits.{setNumber, halfUp, visits}
@@ -27,6 +26,8 @@ use Rattle.remaining.specs.RuleSets.{
   handedUp,
   handedDown,
   Along,
+  oneUp,
+  NextVisit,
   visitReady,
   readyVisits,
 }
@@ -96,26 +97,6 @@ pub at-raised : (mask i o : ℕ) → o / 8 ≡ i → T (hasb (o % 8) mask) → T
 at-raised mask i o q t =
     let f : o - 8 * i ≡ o % 8 = omega arith in
     subst⁻¹ (λ (b : Bool). T b) (has-raised (8 * i) o mask (omega arith)) (subst⁻¹ (λ (a : ℕ). T (hasb a mask)) f t)
-
--- b is the lowest of its eight places
-pub next-of : (left b : ℕ) → T (leb (b % 8) (lowest 64 (field (8 * (b / 8)) left))) → (k : ℕ) → k < b % 8
-    → T (hasb (8 * (b / 8) + k) left) → ⊥
-next-of left b t k l u =
-    let f : IsLowest 64 (field (8 * (b / 8)) left) (lowest 64 (field (8 * (b / 8)) left)) = lowest-is 64 (field (8 * (b / 8)) left) in
-    let m : b % 8 ≤ lowest 64 (field (8 * (b / 8)) left) = leb→le _ _ t in
-    T-not (hasb k (field (8 * (b / 8)) left)) (false-T _ (bit-lacks k _ (f .free k (omega arith))))
-    (subst⁻¹ (λ (x : Bool). T x) (has-field (8 * (b / 8)) k left (omega arith)) u)
-
-pub of-next : (left b : ℕ) → ((k : ℕ) → k < b % 8 → T (hasb (8 * (b / 8) + k) left) → ⊥)
-    → T (leb (b % 8) (lowest 64 (field (8 * (b / 8)) left)))
-of-next left b w = ⊎-elim low (λ l. le→leb _ _ l) (below-or-not (lowest 64 (field (8 * (b / 8)) left)) (b % 8))
-  where
-    low : lowest 64 (field (8 * (b / 8)) left) < b % 8 → T (leb (b % 8) (lowest 64 (field (8 * (b / 8)) left)))
-    low l =
-        let f : IsLowest 64 (field (8 * (b / 8)) left) (lowest 64 (field (8 * (b / 8)) left)) = lowest-is 64 (field (8 * (b / 8)) left) in
-        absurd (w (lowest 64 (field (8 * (b / 8)) left)) l
-        (subst (λ (x : Bool). T x) (has-field (8 * (b / 8)) (lowest 64 (field (8 * (b / 8)) left)) left (omega arith))
-        (true-T _ (bit-has _ _ (f .member (omega arith))))))
 
 -- those of the first visit are the lowest eight bits
 pub first-inherited : (by : List ℕ) (x a : ℕ) → a < 8
@@ -187,51 +168,75 @@ in-child i k t = raised-at 255 i k (omega arith) t .0
 pub child-in : (i k : ℕ) → k / 8 ≡ i → T (hasb k (raised (8 * i) 255))
 child-in i k e = at-raised 255 i k e (true-T _ (bit-has (k % 8) 255 (bit-below 8 (k % 8) (omega arith))))
 
-module _ (g s by : List ℕ) (p left waiting wanted : ℕ) (seen : SeenVisits g s by p left) (along : Along g by p left wanted) where
-  module _ (b : ℕ) (h : b < 64) (i : T (hasb b left)) where
-    passes : T (visitReady left (common wanted waiting) b) → Passes g s p left waiting b
-    unfolding visitReady
-    passes t =
-        record {
-          next = λ k l u. next-of left b (and-left _ _ t) k l u;
-          handed = λ a l u e.
-              let o : ℕ = 8 * (b / 8) + a in
-              let own : o % 8 ≡ a = omega arith in
-              let there : o / 8 ≡ b / 8 = omega arith in
-              let v = seen b h i in
-              T-not (hasb o 0) (none-left o)
-              (subst (λ (x : ℕ). T (hasb o x)) (eqb→eq _ _ (and-right _ _ t))
-              (both-common o (common wanted waiting) (raised (8 * (b / 8)) 255)
-              (both-common o wanted waiting
-              (along .taken b o h i (λ k l u. next-of left b (and-left _ _ t) k l u) there
-              (subst⁻¹ (λ (y : ℕ). T (hasb y (inheritedMask by (symbolFrom g p (b / 8)) (b % 8)))) own
-              (inherited-in s by (symbolFrom g p (b / 8)) (b % 8) (v .0) (omega arith) (omega (arith, v .1)) a l e))) u)
-              (child-in (b / 8) o there)));
-        }
+-- The visits of each child that are left are its last ones, and no child has eight: so the next one is that before which none is left.
+pub record Rising (left : ℕ) : Type 0 where
+  pub later : (b k : ℕ) → b < 64 → T (hasb b left) → k < b % 8 → T (hasb (8 * (b / 8) + k) left) → T (hasb (b - 1) left)
+  pub apart : (b : ℕ) → b < 64 → T (hasb b left) → b % 8 ≡ 0 → T (hasb (b - 1) left) → ⊥
 
-    passing : Passes g s p left waiting b → T (visitReady left (common wanted waiting) b)
-    unfolding visitReady
-    passing w =
-        and-intro _ _ (of-next left b (w .next))
-        (eq-T _ _ (no-member (common (common wanted waiting) (raised (8 * (b / 8)) 255))
-        (λ o t.
-        let v = common-both o (common wanted waiting) (raised (8 * (b / 8)) 255) t in
-        let u = common-both o wanted waiting (v .0) in
-        let k = seen b h i in
-        let q : o / 8 ≡ b / 8 = in-child (b / 8) o (v .1) in
-        let e : o ≡ 8 * (b / 8) + o % 8 = omega arith in
-        w .handed (o % 8) (omega arith) (subst (λ (x : ℕ). T (hasb x waiting)) e (u .1))
-        (in-inherited s by (symbolFrom g p (b / 8)) (b % 8) (k .0) (omega arith) (omega (arith, k .1)) (o % 8)
-        (along .takes b o h i (w .next) q (u .0)) .1))))
+module _ (left b : ℕ) (h : b < 64) where
+  next-of : Rising left → T (hasb b (minus left (oneUp left))) → T (hasb b left) × NextVisit left b
+  unfolding oneUp
+  next-of rising t =
+      let u = minus-both b left (oneUp left) t in (
+        u .0,
+        λ k l y.
+            T-not (hasb b (oneUp left)) (u .1)
+            (subst⁻¹ (λ (x : Bool). T x) (hasb-collect 64 b _ h) (and-intro _ _ (le→leb 1 b (omega arith)) (rising .later b k h (u .0) l y))),
+      )
 
+  of-next : Rising left → T (hasb b left) → NextVisit left b → T (hasb b (minus left (oneUp left)))
+  unfolding oneUp
+  of-next rising t next =
+      both-minus b left (oneUp left) t
+      (not-T (hasb b (oneUp left))
+      (λ u.
+      let y = and-right _ _ (subst (λ (x : Bool). T x) (hasb-collect 64 b _ h) u) in
+      ⊎-elim
+      (λ i.
+      let e : b - 1 ≡ 8 * (b / 8) + (b % 8 - 1) = omega arith in
+      next (b % 8 - 1) (omega arith) (subst (λ (x : ℕ). T (hasb x left)) e y))
+      (λ i. rising .apart b h t (omega arith) y) (below-or-not 0 (b % 8))))
+
+module _ (g s by : List ℕ) (p left waiting wanted : ℕ) (seen : SeenVisits g s by p left) (rising : Rising left) (along : Along g by p left wanted) where
   -- the visits that are ready
   pub ready-at : (b : ℕ) → T (hasb b (readyVisits left (common wanted waiting))) → (b < 64) × T (hasb b left) × Passes g s p left waiting b
-  unfolding readyVisits
+  unfolding readyVisits visitReady
   ready-at b t =
       let h : b < 64 = hasb-below 64 b (readyVisits left (common wanted waiting)) (collect-lt 64 _) t in
       let u = subst (λ (x : Bool). T x) (hasb-collect 64 b _ h) t in
-      (h, and-left _ _ u, passes b h (and-left _ _ u) (and-right _ _ u))
+      let n = next-of left b h rising (and-left _ _ u) in (
+        h,
+        n .0,
+        record {
+          next = n .1;
+          handed = λ a l y e.
+              let o : ℕ = 8 * (b / 8) + a in
+              let own : o % 8 ≡ a = omega arith in
+              let there : o / 8 ≡ b / 8 = omega arith in
+              let v = seen b h (n .0) in
+              T-not (hasb o 0) (none-left o)
+              (subst (λ (x : ℕ). T (hasb o x)) (eqb→eq _ _ (and-right _ _ u))
+              (both-common o (common wanted waiting) (raised (8 * (b / 8)) 255)
+              (both-common o wanted waiting
+              (along .taken b o h (n .0) (n .1) there
+              (subst⁻¹ (λ (y : ℕ). T (hasb y (inheritedMask by (symbolFrom g p (b / 8)) (b % 8)))) own
+              (inherited-in s by (symbolFrom g p (b / 8)) (b % 8) (v .0) (omega arith) (omega (arith, v .1)) a l e))) y)
+              (child-in (b / 8) o there)));
+        },
+      )
 
   pub at-ready : (b : ℕ) → b < 64 → T (hasb b left) → Passes g s p left waiting b → T (hasb b (readyVisits left (common wanted waiting)))
-  unfolding readyVisits
-  at-ready b h t w = subst⁻¹ (λ (x : Bool). T x) (hasb-collect 64 b _ h) (and-intro _ _ t (passing b h t w))
+  unfolding readyVisits visitReady
+  at-ready b h i w =
+      subst⁻¹ (λ (x : Bool). T x) (hasb-collect 64 b _ h)
+      (and-intro _ _ (of-next left b h rising i (w .next))
+      (eq-T _ _ (no-member (common (common wanted waiting) (raised (8 * (b / 8)) 255))
+      (λ o t.
+      let v = common-both o (common wanted waiting) (raised (8 * (b / 8)) 255) t in
+      let u = common-both o wanted waiting (v .0) in
+      let k = seen b h i in
+      let q : o / 8 ≡ b / 8 = in-child (b / 8) o (v .1) in
+      let e : o ≡ 8 * (b / 8) + o % 8 = omega arith in
+      w .handed (o % 8) (omega arith) (subst (λ (x : ℕ). T (hasb x waiting)) e (u .1))
+      (in-inherited s by (symbolFrom g p (b / 8)) (b % 8) (k .0) (omega arith) (omega (arith, k .1)) (o % 8)
+      (along .takes b o h i (w .next) q (u .0)) .1)))))

@@ -1,130 +1,114 @@
--- The lowest visit that is ready, as the code finds it, child by child: the lowest that is left is the next one of its child, and where it is not
--- ready none of the child's is. Assumes nothing.
-use Prim.Native.Nat.{ℕ, _+_, _*_, _/_, _%_, _<_}
+-- The visits that are ready, as the code finds them: of the next visits of all children those are taken out at whose child something is lacking,
+-- child by child. Assumes nothing.
+use Prim.Native.Nat.{ℕ, _*_, _/_, _%_, _^_, _<_}
 use mathlib.Core.Path.{_≡_, sym, _∙_, ap, subst, subst⁻¹}
-use mathlib.Core.Logic.{_⊎_, inl, inr, ⊎-elim}
+use mathlib.Core.Logic.{⊎-elim}
 use mathlib.Core.Bool.{Bool, not}
 use native.Mathlib.Omega.{arith}
-use lib.Dec.{T, eqb→eq, T-not, not-T}
-use Rattle.basics.proofs.TestLaws.{and-intro, and-left, and-right, tested, same-or-not, below-or-not, eq-T, T-true, true-T}
-use Rattle.bits.specs.Bit.{bit, hasb, lowest, common, minus, raised, First}
-use Rattle.bits.proofs.BitLaws.{bit-cases, bit-has, has-bit}
-use Rattle.bits.proofs.LowestLaws.{lowest-is, lowest-unique}
+use native.Mathlib.Nat.{mod-lt}
+use mir.Syntax.{w64}
+use mir.Val.{Fits}
+use lib.Dec.{T, eqb, eqb→eq, leb→le, le→leb, T-not, not-T}
+use lib.Pow.{pow-pos}
+use Rattle.basics.proofs.TestLaws.{and-intro, and-left, and-right, tested, same-test, below-or-not, eq-T}
+use Rattle.bits.specs.Bit.{bit, hasb, common, minus, raised, First}
 use Rattle.bits.proofs.CollectLaws.{collect-lt}
-use Rattle.bits.proofs.MemberLaws.{hasb-collect, hasb-below, none-left, both-common, minus-both, both-minus}
-use Rattle.remaining.specs.RuleSets.{visitReady, readyVisits}
-use Rattle.remaining.proofs.MaskLaws.{next-of, of-next, in-child, child-in}
-use Rattle.remaining.proofs.MemberWalks.{first-member, under-first}
+use Rattle.bits.proofs.ShiftLaws.{bit-cut, bit-up, bit-up-low}
+use Rattle.bits.proofs.SetLaws.{minus-lt}
+use Rattle.bits.proofs.MemberLaws.{hasb-collect, hasb-ext, none-left, no-member, common-both, both-common, minus-both, both-minus}
+use Rattle.remaining.specs.RuleSets.{oneUp, visitReady, readyVisits}
+use Rattle.remaining.proofs.MaskLaws.{in-child, child-in}
+use Rattle.remaining.proofs.MemberWalks.{first-member}
 
-no-bit : (k s : ℕ) → (T (hasb k s) → ⊥) → bit k s ≡ 0
-no-bit k s n = ⊎-elim (λ z. z) (λ o. absurd (n (true-T _ (bit-has k s o)))) (bit-cases k s)
+-- shifted up by one place, a set has its members one up
+pub one-up : (s : ℕ) → s * 2 ^ 1 % 2 ^ 64 ≡ oneUp s
+unfolding oneUp
+one-up s =
+    hasb-ext 64 (s * 2 ^ 1 % 2 ^ 64) (oneUp s) (mod-lt (s * 2 ^ 1) (pow-pos 64)) (collect-lt 64 _)
+    (λ k h.
+    ap (λ (n : ℕ). eqb n 1) (bit-cut 64 k (s * 2 ^ 1) h)
+    ∙ (same-test (hasb k (s * 2 ^ 1)) _
+    (λ t.
+    ⊎-elim (λ l. absurd (omega (arith, bit-up-low 1 k s l, eqb→eq (bit k (s * 2 ^ 1)) 1 t)))
+    (λ l. and-intro _ _ (le→leb 1 k l) (subst (λ (b : Bool). T b) (ap (λ (n : ℕ). eqb n 1) (bit-up 1 k s l)) t)) (below-or-not k 1))
+    (λ t. subst⁻¹ (λ (b : Bool). T b) (ap (λ (n : ℕ). eqb n 1) (bit-up 1 k s (leb→le 1 k (and-left _ _ t)))) (and-right _ _ t))
+    ∙ sym (hasb-collect 64 k _ h)))
 
 module _ (visits₀ lacking : ℕ) where
-  in-ready : (b : ℕ) → T (hasb b (readyVisits visits₀ lacking)) → (b < 64) × T (hasb b visits₀) × T (visitReady visits₀ lacking b)
-  unfolding readyVisits
-  in-ready b t =
-      let h : b < 64 = hasb-below 64 b (readyVisits visits₀ lacking) (collect-lt 64 _) t in
+  -- nothing is lacking at the children of those that seem ready but for what is left, and nothing else was taken out
+  pub record Clearing (ready left : ℕ) : Type 0 where
+    pub small : ready < 2 ^ 64
+    pub left-lacks : (o : ℕ) → T (hasb o left) → T (hasb o lacking)
+    pub next : (b : ℕ) → T (hasb b ready) → T (hasb b (minus visits₀ (oneUp visits₀)))
+    pub free : (b o : ℕ) → T (hasb b ready) → T (hasb o lacking) → T (not (hasb o left)) → o / 8 ≡ b / 8 → ⊥
+    pub all : (b : ℕ) → T (hasb b (minus visits₀ (oneUp visits₀))) → ((o : ℕ) → T (hasb o lacking) → o / 8 ≡ b / 8 → ⊥) → T (hasb b ready)
+
+  pub clearing-start : (up ready : ℕ) → Fits w64 visits₀ → up ≡ oneUp visits₀ → ready ≡ minus visits₀ up → Clearing ready lacking
+  clearing-start up ready h e f =
+      subst⁻¹ (λ (x : ℕ). Clearing x lacking) (f ∙ ap (minus visits₀) e)
+      (record {
+        small = minus-lt 64 visits₀ (oneUp visits₀) (h .fits);
+        left-lacks = λ o t. t;
+        next = λ b t. t;
+        free = λ b o t u n q. T-not (hasb o lacking) n u;
+        all = λ b t f. t;
+      })
+
+  -- the child of the lowest that is left is done
+  cleared : (ready left o : ℕ) → Clearing ready left → First left o
+      → Clearing (minus ready (raised (8 * (o / 8)) 255)) (minus left (raised (8 * (o / 8)) 255))
+  cleared ready left o w f =
+      record {
+        small = minus-lt 64 ready (raised (8 * (o / 8)) 255) (w .small);
+        left-lacks = λ k t. w .left-lacks k (minus-both k left (raised (8 * (o / 8)) 255) t .0);
+        next = λ b t. w .next b (minus-both b ready (raised (8 * (o / 8)) 255) t .0);
+        free = λ b k t u n q.
+            let z = minus-both b ready (raised (8 * (o / 8)) 255) t in
+            ⊎-elim
+            (λ i.
+            T-not (hasb b (raised (8 * (o / 8)) 255)) (z .1)
+            (child-in (o / 8) b (sym q ∙ in-child (o / 8) k (out k n i))))
+            (λ i. w .free b k (z .0) u i q) (tested (hasb k left));
+        all = λ b t u.
+            both-minus b ready (raised (8 * (o / 8)) 255) (w .all b t u)
+            (not-T (hasb b (raised (8 * (o / 8)) 255))
+            (λ i. u o (w .left-lacks o (first-member left o f)) (sym (in-child (o / 8) b i))));
+      }
+    where
+      out : (k : ℕ) → T (not (hasb k (minus left (raised (8 * (o / 8)) 255)))) → T (hasb k left) → T (hasb k (raised (8 * (o / 8)) 255))
+      out k n t =
+          ⊎-elim (λ u. u) (λ u. absurd (T-not (hasb k (minus left (raised (8 * (o / 8)) 255))) n (both-minus k left (raised (8 * (o / 8)) 255) t u)))
+          (tested (hasb k (raised (8 * (o / 8)) 255)))
+
+  pub clearing-turn : (ready left o child next rest : ℕ) → Clearing ready left → First left o → child ≡ raised (8 * (o / 8)) 255
+      → next ≡ minus ready child → rest ≡ minus left child → Clearing next rest
+  clearing-turn ready left o child next rest w f q n m =
+      subst⁻¹ (λ (x : ℕ). Clearing x rest) (n ∙ ap (minus ready) q)
+      (subst⁻¹ (λ (x : ℕ). Clearing (minus ready (raised (8 * (o / 8)) 255)) x) (m ∙ ap (minus left) q) (cleared ready left o w f))
+
+  pub clearing-finish : (ready left : ℕ) → Clearing ready left → left ≡ 0 → ready ≡ readyVisits visits₀ lacking
+  unfolding readyVisits visitReady
+  clearing-finish ready left w e =
+      hasb-ext 64 ready (readyVisits visits₀ lacking) (w .small) (collect-lt 64 _)
+      (λ b h.
+      same-test (hasb b ready) (hasb b (readyVisits visits₀ lacking))
+      (λ t.
+      subst⁻¹ (λ (x : Bool). T x) (hasb-collect 64 b _ h)
+      (and-intro _ _ (w .next b t)
+      (eq-T _ _ (no-member (common lacking (raised (8 * (b / 8)) 255))
+      (λ o u.
+      let v = common-both o lacking (raised (8 * (b / 8)) 255) u in
+      w .free b o t (v .0) (subst⁻¹ (λ (x : ℕ). T (not (hasb o x))) e (none-left o)) (in-child (b / 8) o (v .1)))))))
+      (λ t.
       let u = subst (λ (x : Bool). T x) (hasb-collect 64 b _ h) t in
-      (h, and-left _ _ u, and-right _ _ u)
+      w .all b (and-left _ _ u)
+      (λ o v q.
+      T-not (hasb o 0) (none-left o)
+      (subst (λ (x : ℕ). T (hasb o x)) (eqb→eq _ _ (and-right _ _ u)) (both-common o lacking (raised (8 * (b / 8)) 255) v (child-in (b / 8) o q))))))
 
-  -- of the children that are no longer left no visit is ready
-  pub record Looking (left : ℕ) : Type 0 where
-    pub within : (b : ℕ) → T (hasb b left) → T (hasb b visits₀)
-    pub whole : (b k : ℕ) → b / 8 ≡ k / 8 → T (hasb b left) → T (hasb k visits₀) → T (hasb k left)
-    pub none : (b : ℕ) → T (hasb b visits₀) → T (not (hasb b left)) → T (visitReady visits₀ lacking b) → ⊥
-
-  pub looking-start : Looking visits₀
-  looking-start = record { within = λ b t. t; whole = λ b k e t u. u; none = λ b t n u. T-not (hasb b visits₀) n t }
-
-  -- the lowest that is left is the next of its child
-  module _ (left b : ℕ) (w : Looking left) (f : First left b) where
-    -- a visit of the same child that is ready is this one
-    same-child : (k : ℕ) → k / 8 ≡ b / 8 → T (hasb k left) → T (visitReady visits₀ lacking k) → k ≡ b
-    unfolding visitReady
-    same-child k e t u =
-        ⊎-elim (λ q. q)
-        (λ n.
-        ⊎-elim (λ l. absurd (under-first left b k f l t))
-        (λ l.
-        let z : b ≡ 8 * (k / 8) + b % 8 = omega arith in
-        absurd (next-of visits₀ k (and-left _ _ u) (b % 8) (omega (arith, n))
-        (subst (λ (y : ℕ). T (hasb y visits₀)) z (w .within b (first-member left b f)))))
-        (below-or-not k b))
-        (same-or-not k b)
-
-    -- what is no longer left after it was left out is of its child, or was not left
-    left-out : (k : ℕ) → T (not (hasb k (minus left (raised (8 * (b / 8)) 255)))) → (k / 8 ≡ b / 8) ⊎ T (not (hasb k left))
-    left-out k n =
-        ⊎-elim
-        (λ t.
-        ⊎-elim (λ u. inl (in-child (b / 8) k u))
-        (λ u. absurd (T-not (hasb k (minus left (raised (8 * (b / 8)) 255))) n (both-minus k left (raised (8 * (b / 8)) 255) t u)))
-        (tested (hasb k (raised (8 * (b / 8)) 255))))
-        (λ t. inr t) (tested (hasb k left))
-
-    turned : (common lacking (raised (8 * (b / 8)) 255) ≡ 0 → ⊥) → Looking (minus left (raised (8 * (b / 8)) 255))
-    unfolding visitReady
-    turned blocked =
-        record {
-          within = λ k t. w .within k (minus-both k left (raised (8 * (b / 8)) 255) t .0);
-          whole = λ k j e t u.
-              let v = minus-both k left (raised (8 * (b / 8)) 255) t in
-              both-minus j left (raised (8 * (b / 8)) 255) (w .whole k j e (v .0) u)
-              (not-T (hasb j (raised (8 * (b / 8)) 255))
-              (λ i. T-not (hasb k (raised (8 * (b / 8)) 255)) (v .1) (child-in (b / 8) k (e ∙ in-child (b / 8) j i))));
-          none = λ k t n u.
-              ⊎-elim
-              (λ i.
-              let j : T (hasb k left) = w .whole b k (sym i) (first-member left b f) t in
-              blocked (eqb→eq _ _ (and-right _ _ (subst (λ (y : ℕ). T (visitReady visits₀ lacking y)) (same-child k i j u) u))))
-              (λ i. w .none k t i u) (left-out k n);
-        }
-
-    found : common lacking (raised (8 * (b / 8)) 255) ≡ 0 → T (hasb b (readyVisits visits₀ lacking))
-    unfolding readyVisits visitReady
-    found e =
-        subst⁻¹ (λ (x : Bool). T x) (hasb-collect 64 b _ (f .small))
-        (and-intro _ _ (w .within b (first-member left b f))
-        (and-intro _ _
-        (of-next visits₀ b
-        (λ k l u.
-        under-first left b (8 * (b / 8) + k) f (omega arith)
-        (w .whole b (8 * (b / 8) + k) (omega arith) (first-member left b f) u)))
-        (eq-T _ _ e)))
-
-  pub looking-turn : (left b child both rest : ℕ) → Looking left → First left b → child ≡ raised (8 * (b / 8)) 255 → both ≡ common lacking child
-      → (both ≡ 0 → ⊥) → rest ≡ minus left child → Looking rest
-  looking-turn left b child both rest w f q e n m =
-      subst⁻¹ Looking (m ∙ ap (minus left) q) (turned left b w f (λ z. n (e ∙ (ap (common lacking) q ∙ z))))
-
-  pub looking-found : (left b child both : ℕ) → Looking left → First left b → child ≡ raised (8 * (b / 8)) 255 → both ≡ common lacking child
-      → both ≡ 0 → b ≡ lowest 64 (readyVisits visits₀ lacking)
-  looking-found left b child both w f q e z =
-      lowest-unique 64 (readyVisits visits₀ lacking) b (lowest 64 (readyVisits visits₀ lacking))
-      (record {
-        within = omega (arith, f .small);
-        member = λ h. has-bit b _ (T-true _ (found left b w f (sym (ap (common lacking) q) ∙ (sym e ∙ z))));
-        free = λ k l. no-bit k (readyVisits visits₀ lacking)
-            (λ t.
-            let u = in-ready k t in
-            ⊎-elim (λ i. under-first left b k f l i) (λ i. w .none k (u .1) i (u .2)) (tested (hasb k left)));
-      })
-      (lowest-is 64 (readyVisits visits₀ lacking))
-
-  pub looking-end : (left : ℕ) → Looking left → left ≡ 0 → 64 ≡ lowest 64 (readyVisits visits₀ lacking)
-  looking-end left w e =
-      lowest-unique 64 (readyVisits visits₀ lacking) 64 (lowest 64 (readyVisits visits₀ lacking))
-      (record {
-        within = omega arith;
-        member = λ h. absurd (omega arith);
-        free = λ k l. no-bit k (readyVisits visits₀ lacking)
-            (λ t. let u = in-ready k t in w .none k (u .1) (subst⁻¹ (λ (x : ℕ). T (not (hasb k x))) e (none-left k)) (u .2));
-      })
-      (lowest-is 64 (readyVisits visits₀ lacking))
-
-pub looking-less : (left b part rest : ℕ) → First left b → part ≡ raised (8 * (b / 8)) 255 → rest ≡ minus left part → rest < left
+pub clearing-less : (left b part rest : ℕ) → First left b → part ≡ raised (8 * (b / 8)) 255 → rest ≡ minus left part → rest < left
 unfolding minus
-looking-less left b part rest f q m =
+clearing-less left b part rest f q m =
     let some : 0 < common left part =
     ⊎-elim (λ h. h)
     (λ h.

@@ -107,14 +107,17 @@ pub record Along (g by : List ℕ) (p left wanted : ℕ) : Type 0 where
   pub taken : (b o : ℕ) → b < 64 → T (hasb b left) → NextVisit left b → o / 8 ≡ b / 8
       → T (hasb (o % 8) (inheritedMask by (symbolFrom g p (b / 8)) (b % 8))) → T (hasb o wanted)
 
--- Visit b is ready, by the visits that are left and the wanted occurrences that wait: it is the lowest of its child, and nothing that it takes
--- along waits.
-unfoldable pub visitReady : ℕ → ℕ → ℕ → Bool
-visitReady left lacking b = leb (b % 8) (lowest 64 (field (8 * (b / 8)) left)) and eqb (common lacking (raised (8 * (b / 8)) 255)) 0
+-- the members of a set of numbers below 64, each one up
+unfoldable pub oneUp : ℕ → ℕ
+oneUp s = collect 64 (λ b. leb 1 b and hasb (b - 1) s)
 
--- the visits that are ready
+-- The visits that are ready, by those that are left and the wanted occurrences that wait: the visit before is not left, and nothing is lacking at
+-- the child.
+unfoldable pub visitReady : ℕ → ℕ → ℕ → Bool
+visitReady left lacking b = hasb b (minus left (oneUp left)) and eqb (common lacking (raised (8 * (b / 8)) 255)) 0
+
 unfoldable pub readyVisits : ℕ → ℕ → ℕ
-readyVisits left lacking = collect 64 (λ b. hasb b left and visitReady left lacking b)
+readyVisits left lacking = collect 64 (λ b. visitReady left lacking b)
 
 -- "the last leave follows everything", another "the computes of the synthesized attributes of visit n": by those of them that wait, the later
 -- leaves and the other actions

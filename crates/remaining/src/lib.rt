@@ -189,20 +189,26 @@ pub fn start(words: &[u16], p: usize, by: &ByVisit) -> State
     }
 }
 
-// The lowest visit that is ready, or 64 where none is: the next one of its child, where nothing is lacking that it takes along.
-pub fn ready_visit(visits: u64, lacking: u64) -> usize
-    ensures { λ r. ⌜ r ≡ bit.lowest 64 (masks.readyVisits visits lacking) ⌝ }
+// The members of a set, each one up.
+fn one_up(set: u64) -> u64
+    ensures { λ r. ⌜ r ≡ masks.oneUp set ⌝ }
 {
-    let mut left = visits;
+    set << 1
+}
+
+// The visits that are ready: the next one of each child, the visit before which is not left, but for the children at which something is lacking
+// that it takes along.
+pub fn ready_visits(visits: u64, lacking: u64) -> u64
+    ensures { λ r. ⌜ r ≡ masks.readyVisits visits lacking ⌝ }
+{
+    let mut ready = bits::minus(visits, one_up(visits));
+    let mut left = lacking;
     while left != 0 {
-        let b = bits::first(left);
-        let child = bits::raised(255, 8 * (b / 8));
-        if bits::common(lacking, child) == 0 {
-            return b;
-        }
+        let child = bits::raised(255, 8 * (bits::first(left) / 8));
+        ready = bits::minus(ready, child);
         left = bits::minus(left, child);
     }
-    64
+    ready
 }
 
 // The leaves that are ready. Only the next one can be: the last one where nothing else is left, another where nothing that it hands up waits.

@@ -10,7 +10,7 @@ use lib.Dec.{T, T-not, not-T}
 use Rattle.bits.specs.Bit.{hasb, remove, common, minus, raised, First}
 use Rattle.bits.proofs.MemberLaws.{none-left, has-not, has-other, union-cases, union-left, union-right, minus-both, both-minus}
 use Rattle.basics.proofs.TestLaws.{same-or-not, below-or-not}
-use Rattle.grammar.specs.Table.{position}
+use Rattle.grammar.specs.Table.{symbolOf, position}
 use Rattle.relations.specs.Computed.{idsOf}
 use Rattle.sets.specs.Visits.{setNumber}
 use Rattle.access.specs.ByPlace.{symbolFrom}
@@ -28,7 +28,7 @@ use Rattle.sequencing.proofs.ReadyComputes.{waits-attribute}
 use Rattle.sequencing.proofs.ReadyVisits.{later-visits, VisitReady, free-visit, ready-visit}
 use Rattle.sequencing.proofs.OrderSteps.{taken}
 use Rattle.remaining.proofs.RemainsLaws.{remains-visit, Kind, aCompute, aVisit, aLeave, kind-of, less-visit}
-use Rattle.remaining.proofs.MaskLaws.{SeenVisits, inherited-small, raised-at, at-raised, in-child, child-in, up-at, at-up, Passes, ready-at, at-ready}
+use Rattle.remaining.proofs.MaskLaws.{SeenVisits, Rising, inherited-small, raised-at, at-raised, in-child, child-in, up-at, at-up, Passes, ready-at, at-ready}
 use Rattle.sequencing.proofs.GivenLaws.{left-visit, seen-at, set-from, visits-from, ActionReady, orderly-rule, five-visits}
 
 -- visit b is visit b % 8 + 1 of child b / 8
@@ -80,6 +80,32 @@ module _ (g s by rows : List ℕ) (p r : ℕ) (given : RuleGiven g s by rows p r
     seen-visits b h t =
         let k = child b h t in
         (seen-at g s by rows p r given (b / 8) (k .inside), omega (arith, k .last, visits-from g s by rows p r given (b / 8)))
+
+    -- the visits of a child that are left are its last ones, and it has at most five
+    pub rising : Rising v
+    rising =
+        record {
+          later = λ b k h t i u.
+              let z = child b h t in
+              let there : ChildVisit g s r (b / 8) (b % 8) =
+              record {
+                child = z .child;
+                inside = z .inside;
+                nonterminalThere = z .nonterminalThere;
+                first = omega arith;
+                last = omega (arith, z .last);
+              } in
+              let e : 64 + (8 * (b / 8) + k) ≡ 64 + 8 * (b / 8) + (k + 1 - 1) = omega arith in
+              let f : 64 + 8 * (b / 8) + (b % 8 - 1) ≡ 64 + (b - 1) = omega arith in
+              subst (λ (x : Bool). T x) (remains-visit c v l (b - 1) (omega arith))
+              (subst (λ (a : ℕ). T (remains c v l a)) f
+              (later-visits g (idsOf g) s r (orderly-rule g s by rows p r given) (five-visits g s by rows p r given) (remains c v l) w going (b / 8)
+              (k + 1) (b % 8) (omega arith) (omega arith) there
+              (subst (λ (a : ℕ). T (remains c v l a)) e (left-visit c v l (8 * (b / 8) + k) (omega arith) u))));
+          apart = λ b h t e u.
+              let z = child (b - 1) (omega arith) u in
+              omega (arith, z .child, z .last, five-visits g s by rows p r given (symbolOf g r ((b - 1) / 8)));
+        }
 
     -- of the visits of a child that are left after the next one, the one after it is the next
     next-one : (b n : ℕ) → b < 64 → n < 64 → T (hasb b v) → NextVisit v b → T (hasb n (remove b v)) → NextVisit (remove b v) n → n / 8 ≡ b / 8
@@ -168,7 +194,7 @@ module _ (g s by rows : List ℕ) (p r : ℕ) (given : RuleGiven g s by rows p r
       ready-is-visit : (b : ℕ) → b < 64 → T (hasb b v) → ActionReady g s r c v l (64 + b) → T (hasb b (readyVisits v (common d w)))
       ready-is-visit b h t f =
           let e : 64 + b ≡ 64 + 8 * (b / 8) + (b % 8 + 1 - 1) = omega arith in
-          at-ready g s by p v w d seen-visits along b h t
+          at-ready g s by p v w d seen-visits rising along b h t
           (next-passes b h
           (free-visit g (idsOf g) s r (orderly-rule g s by rows p r given) (five-visits g s by rows p r given) (remains c v l) w going (b / 8)
           (b % 8 + 1) (child b h t)
@@ -176,7 +202,7 @@ module _ (g s by rows : List ℕ) (p r : ℕ) (given : RuleGiven g s by rows p r
 
       visit-is-ready : (b : ℕ) → T (hasb b (readyVisits v (common d w))) → ActionReady g s r c v l (64 + b)
       visit-is-ready b t =
-          let u = ready-at g s by p v w d seen-visits along b t in
+          let u = ready-at g s by p v w d seen-visits rising along b t in
           let e : 64 + b ≡ 64 + 8 * (b / 8) + (b % 8 + 1 - 1) = omega (arith, u .0) in
           subst⁻¹ (λ (a : ℕ). ActionReady g s r c v l a) e
           (ready-visit g (idsOf g) s r (orderly-rule g s by rows p r given) (five-visits g s by rows p r given) (remains c v l) w going (b / 8)
@@ -196,7 +222,7 @@ module _ (g s by rows : List ℕ) (p r : ℕ) (given : RuleGiven g s by rows p r
           (λ o t n. both-minus o w (handedUp g by p b) t (not-T (hasb o (handedUp g by p b)) (λ u. n (of-up o t u))))
         where
           here : (b < 64) × T (hasb b v) × Passes g s p v w b
-          here = ready-at g s by p v w d seen-visits along b (first-member _ b f)
+          here = ready-at g s by p v w d seen-visits rising along b (first-member _ b f)
 
           lower : (a : ℕ) → a < 64 + b → T (remains c v l a) → ActionReady g s r c v l a → Kind a → ⊥
           lower a k t u (aCompute h) = none a h t u

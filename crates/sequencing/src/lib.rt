@@ -53,9 +53,9 @@ fn next(words: &[u16], p: usize, r: usize, by: &ByVisit, rows: &[u64], state: St
     if computes != 0 {
         return remaining::compute(state, bits::first(computes));
     }
-    let b = remaining::ready_visit(state.visits, bits::common(state.wanted, state.waiting));
-    if b < 64 {
-        return remaining::visit(words, p, by, state, b);
+    let visits = remaining::ready_visits(state.visits, bits::common(state.wanted, state.waiting));
+    if visits != 0 {
+        return remaining::visit(words, p, by, state, bits::first(visits));
     }
     let leaves = remaining::ready_leaves(words, p, by, state);
     remaining::leave(words, p, by, state, bits::first(leaves))

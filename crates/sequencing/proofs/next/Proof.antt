@@ -1,5 +1,5 @@
--- `sequencing::next` meets its contract. The computes that are not blocked, the lowest visit and the leaves are those that are ready, and some
--- action always is: so the first of them in this order is the lowest ready action. Assumes nothing.
+-- `sequencing::next` meets its contract. Each of the three sets has exactly the actions of its kind that are ready, and some action always is: so the
+-- lowest member of the first set that is not empty is the lowest ready action. Assumes nothing.
 use borrow.Author.Needs.{needs}
 use Rattle.sequencing.proofs.GivenLaws.{place-small, left-low, rows-ready}
 use Rattle.sequencing.proofs.NextLaws.{
@@ -35,8 +35,11 @@ returns c = (search next-compute, search along-kept)
 common-requires : tie.Need-common-requires
 common-requires c κs = search needs
 
-ready-visit-requires : tie.Need-ready-visit-requires
-ready-visit-requires c κs = search needs
+ready-visits-requires : tie.Need-ready-visits-requires
+ready-visits-requires c κs = search needs
+
+first-requires-2 : tie.Need-first-requires-2
+first-requires-2 c κs = search needs
 
 visit-requires : tie.Need-visit-requires
 visit-requires c κs = ((search place-small, (search needs, search visit-few)), search visit-child)
@@ -47,8 +50,8 @@ returns-2 c = (search (next-visit, needs), search (along-next, needs))
 ready-leaves-requires : tie.Need-ready-leaves-requires
 ready-leaves-requires c κs = ((search place-small, search left-low), search leaves-left)
 
-first-requires-2 : tie.Need-first-requires-2
-first-requires-2 c κs = search (leave-ready-then, needs)
+first-requires-3 : tie.Need-first-requires-3
+first-requires-3 c κs = search (leave-ready-then, needs)
 
 leave-requires : tie.Need-leave-requires
 leave-requires c κs = ((search place-small, search leave-inside), search left-low)
@@ -66,10 +69,11 @@ next-spec =
     compute-requires
     returns
     common-requires
-    ready-visit-requires
+    ready-visits-requires
+    first-requires-2
     visit-requires
     returns-2
     ready-leaves-requires
-    first-requires-2
+    first-requires-3
     leave-requires
     returns-3)
