@@ -9,7 +9,7 @@ use lib.ListN.{length, getD, set, take, drop, replicate, length-append}
 use lib.Seq.{set-at, take-all, paste, paste-zero, paste-suc, length-paste}
 use Rattle.basics.specs.Lists.{padded}
 use Rattle.bits.specs.Bit as bits
-use Rattle.grammar.specs.Limits.{ruleWords, longestSequence}
+use Rattle.grammar.specs.Limits.{rowWords, ruleWords, longestSequence}
 use Rattle.relations.specs.Computed.{idsOf}
 use Rattle.access.specs.ByPlace.{Shaped}
 use Rattle.access.proofs.Accessors.{shaped-rule}
@@ -20,6 +20,7 @@ use Rattle.sequences.proofs.ActionLaws.{at-most-104}
 use Rattle.plans.specs.Buffers.{sequenceWords}
 use Rattle.sequencing.specs.Given.{RuleGiven, withBlock}
 use Rattle.remaining.specs.Remaining.{remains, remaining}
+use Rattle.sequencing.specs.Blocked.{Unblocked}
 use Rattle.sequencing.specs.Going.{Going, Taken}
 use Rattle.remaining.specs.RuleSets.{Along, Started}
 use Rattle.sequencing.proofs.GivenLaws.{five-visits}
@@ -30,8 +31,9 @@ module _ (g s by rows : List ℕ) (p r : ℕ) where
   shaped-given given = shaped-rule g r p (given .starts) (given .good) (given .counts)
 
   -- after j actions, of n
-  pub record Writing (n : ℕ) (block : List ℕ) (c v l w d j : ℕ) : Type 0 where
+  pub record Writing (n : ℕ) (block : List ℕ) (c v l w d q j : ℕ) : Type 0 where
     pub along : Along g by p v d
+    pub quiet : Unblocked rows (rowWords r) w c q
     pub inside : j ≤ n
     pub short : n ≤ mostActions
     pub left : length (remaining (remains c v l)) + j ≡ n
@@ -42,15 +44,17 @@ module _ (g s by rows : List ℕ) (p r : ℕ) where
     pub rest : sequenceOf g (idsOf g) s r
         ≡ out ++ order (λ a b. follows g (idsOf g) s r a b) (n - j) (remaining (remains c v l))
 
-  pub writing-start : (c v l w d n : ℕ) → RuleGiven g s by rows p r → Started g by p c v l w d
-      → n ≡ bits.count 64 c + bits.count 64 v + bits.count 64 l → Writing n (n ∷ replicate longestSequence 0) c v l w d 0
+  pub writing-start : (c v l w d q n : ℕ) → RuleGiven g s by rows p r → Started g by p c v l w d
+      → n ≡ bits.count 64 c + bits.count 64 v + bits.count 64 l → Unblocked rows (rowWords r) w c q
+      → Writing n (n ∷ replicate longestSequence 0) c v l w d q 0
   unfolding sequenceOf
-  writing-start c v l w d n given started e =
+  writing-start c v l w d q n given started e quiet =
       let f : n ≡ length (remaining (remains c v l)) = e ∙ starts-count g s by rows p r given c v l w d started in
       let whole : n - 0 ≡ n = omega arith in
       let a : remaining (remains c v l) ≡ actionsOf g s r = starts-all g s by rows p r given c v l w d started in
       record {
         along = starts-along g s by rows p r given c v l w d started;
+        quiet = quiet;
         inside = omega arith;
         short = omega (arith, ap length a, at-most-104 g s r (five-visits g s by rows p r given));
         left = omega arith;
@@ -63,16 +67,18 @@ module _ (g s by rows : List ℕ) (p r : ℕ) where
       }
 
   -- some action is left, and its word has room
-  pub writing-left : (n : ℕ) (block : List ℕ) (c v l w d j : ℕ) → Writing n block c v l w d j → j < n → 1 ≤ length (remaining (remains c v l))
-  writing-left n block c v l w d j k h = omega (arith, k .left)
+  pub writing-left : (n : ℕ) (block : List ℕ) (c v l w d q j : ℕ) → Writing n block c v l w d q j → j < n → 1 ≤ length (remaining (remains c v l))
+  writing-left n block c v l w d q j k h = omega (arith, k .left)
 
-  pub writing-turn : (n : ℕ) (block : List ℕ) (c v l w d j a c′ v′ l′ w′ d′ : ℕ) → Writing n block c v l w d j → j < n
-      → Taken g (idsOf g) s r (remains c v l) a (remains c′ v′ l′) w′ → Along g by p v′ d′ → Writing n (set block (j + 1) a) c′ v′ l′ w′ d′ (j + 1)
-  writing-turn n block c v l w d j a c′ v′ l′ w′ d′ k h t along =
+  pub writing-turn : (n : ℕ) (block : List ℕ) (c v l w d q j a c′ v′ l′ w′ d′ q′ : ℕ) → Writing n block c v l w d q j → j < n
+      → Taken g (idsOf g) s r (remains c v l) a (remains c′ v′ l′) w′ → Along g by p v′ d′ → Unblocked rows (rowWords r) w′ c′ q′
+      → Writing n (set block (j + 1) a) c′ v′ l′ w′ d′ q′ (j + 1)
+  writing-turn n block c v l w d q j a c′ v′ l′ w′ d′ q′ k h t along quiet =
       let more : longestSequence - j ≡ suc (longestSequence - (j + 1)) = omega (arith, k .short) in
       let steps : n - j ≡ suc (n - (j + 1)) = omega arith in
       record {
         along = along;
+        quiet = quiet;
         inside = omega arith;
         short = k .short;
         left = omega (arith, k .left, t .fewer);
@@ -91,10 +97,10 @@ module _ (g s by rows : List ℕ) (p r : ℕ) where
             ∙ sym (append-assoc (k .out) (a ∷ []) (order (λ a b. follows g (idsOf g) s r a b) (n - (j + 1)) (remaining (remains c′ v′ l′))))));
       }
 
-  pub writing-finish : (n : ℕ) (block : List ℕ) (c v l w d j : ℕ) → Writing n block c v l w d j → n ≤ j
+  pub writing-finish : (n : ℕ) (block : List ℕ) (c v l w d q j : ℕ) → Writing n block c v l w d q j → n ≤ j
       → block ≡ sequenceWords (sequenceOf g (idsOf g) s r)
   unfolding order sequenceWords padded
-  writing-finish n block c v l w d j k h =
+  writing-finish n block c v l w d q j k h =
       let e : j ≡ n = omega (arith, k .inside) in
       let z : n - j ≡ 0 = omega arith in
       let all : sequenceOf g (idsOf g) s r ≡ k .out =

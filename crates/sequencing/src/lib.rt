@@ -7,8 +7,9 @@ use remaining::ByVisit;
 use remaining::State;
 use remaining::Step;
 ghost use mathlib.Core.Path.{_≡_};
-ghost use Prim.Native.Nat.{_+_, _*_, _≤_};
+ghost use Prim.Native.Nat.{_+_, _*_, _≤_, _<_};
 ghost use lib.ListN.{length};
+ghost use Rattle.bits.specs.Bit as bit;
 ghost use Rattle.grammar.specs.Limits as limits;
 ghost use Rattle.grammar.specs.Table as table;
 ghost use Rattle.relations.specs.Computed.{idsOf};
@@ -40,25 +41,73 @@ fn unblocked(rows: &[u64], base: usize, waiting: u64, computes: u64) -> u64
     ready
 }
 
+// An action with what is left after it, and the computes that are ready then.
+struct Turn {
+    step: Step,
+    ready: u64,
+}
+
+// The lowest ready compute. Of the others only those to which it leads can become ready by it.
+fn compute_first(rows: &[u64], base: usize, ready: u64, state: State) -> Turn
+    requires { ⌜ base + limits.mostOccurrences ≤ length (now rows) ⌝ }
+    requires { ⌜ blocking.RowsClosed (now rows) base ⌝ }
+    requires { ⌜ blocking.Unblocked (now rows) base (state .waiting) (state .computes) ready ⌝ }
+    requires { ⌜ 0 < ready ⌝ }
+    ensures { λ t. ⌜ bit.First ready (t .step .action) ⌝ }
+    ensures { λ t. ⌜ spec.Done (t .step .action) (t .step .state .computes) (t .step .state .visits) (t .step .state .leaves) (t .step .state .waiting) (t .step .state .wanted) (t .step .action) (bit.remove (t .step .action) (state .computes)) (state .visits) (state .leaves) (bit.remove (t .step .action) (state .waiting)) (state .wanted) ⌝ }
+    ensures { λ t. ⌜ blocking.Unblocked (now (rows .entry)) base (t .step .state .waiting) (t .step .state .computes) (t .ready) ⌝ }
+{
+    let o = bits::first(ready);
+    let step = remaining::compute(state, o);
+    let leads = bits::common(rows[base + o], step.state.computes);
+    let woken = unblocked(rows, base, step.state.waiting, bits::minus(leads, ready));
+    Turn {
+        step: step,
+        ready: bits::union(bits::rest(ready), woken),
+    }
+}
+
 // The lowest action that is ready. Computes come before visits, visits before leaves; an ordered rule always has one that is ready.
-fn next(words: &[u16], p: usize, r: usize, by: &ByVisit, rows: &[u64], state: State) -> Step
+fn next(
+    words: &[u16],
+    p: usize,
+    r: usize,
+    by: &ByVisit,
+    rows: &[u64],
+    ready: u64,
+    state: State,
+) -> Turn
     requires { ⌜ given.RuleGiven (now words) (given.setWords (now words)) (now by) (now rows) p r ⌝ }
     requires { ⌜ going.Going (now words) (idsOf (now words)) (given.setWords (now words)) r (spec.remains (state .computes) (state .visits) (state .leaves)) (state .waiting) ⌝ }
     requires { ⌜ 1 ≤ length (spec.remaining (spec.remains (state .computes) (state .visits) (state .leaves))) ⌝ }
     requires { ⌜ masks.Along (now words) (now by) p (state .visits) (state .wanted) ⌝ }
-    ensures { λ s. ⌜ going.Taken (now (words .entry)) (idsOf (now (words .entry))) (given.setWords (now (words .entry))) r (spec.remains (state .computes) (state .visits) (state .leaves)) (s .action) (spec.remains (s .state .computes) (s .state .visits) (s .state .leaves)) (s .state .waiting) ⌝ }
-    ensures { λ s. ⌜ masks.Along (now (words .entry)) (now (by .entry)) p (s .state .visits) (s .state .wanted) ⌝ }
+    requires { ⌜ blocking.Unblocked (now rows) (limits.rowWords r) (state .waiting) (state .computes) ready ⌝ }
+    ensures { λ t. ⌜ going.Taken (now (words .entry)) (idsOf (now (words .entry))) (given.setWords (now (words .entry))) r (spec.remains (state .computes) (state .visits) (state .leaves)) (t .step .action) (spec.remains (t .step .state .computes) (t .step .state .visits) (t .step .state .leaves)) (t .step .state .waiting) ⌝ }
+    ensures { λ t. ⌜ masks.Along (now (words .entry)) (now (by .entry)) p (t .step .state .visits) (t .step .state .wanted) ⌝ }
+    ensures { λ t. ⌜ blocking.Unblocked (now (rows .entry)) (limits.rowWords r) (t .step .state .waiting) (t .step .state .computes) (t .ready) ⌝ }
 {
-    let computes = unblocked(rows, ROWS * r, state.waiting, state.computes);
-    if computes != 0 {
-        return remaining::compute(state, bits::first(computes));
+    if ready != 0 {
+        return compute_first(rows, ROWS * r, ready, state);
     }
     let visits = remaining::ready_visits(state.visits, bits::common(state.wanted, state.waiting));
     if visits != 0 {
-        return remaining::visit(words, p, by, state, bits::first(visits));
+        let visited = remaining::visit(words, p, by, state, bits::first(visits));
+        return Turn {
+            step: visited,
+            ready: unblocked(
+                rows,
+                ROWS * r,
+                visited.state.waiting,
+                visited.state.computes,
+            ),
+        };
     }
     let leaves = remaining::ready_leaves(words, p, by, state);
-    remaining::leave(words, p, by, state, bits::first(leaves))
+    let left = remaining::leave(words, p, by, state, bits::first(leaves));
+    Turn {
+        step: left,
+        ready: unblocked(rows, ROWS * r, left.state.waiting, left.state.computes),
+    }
 }
 
 // The words of the sequence: length, actions, zeros.
@@ -68,12 +117,15 @@ fn words_of(words: &[u16], p: usize, r: usize, by: &ByVisit, rows: &[u64]) -> [u
 {
     let mut state = remaining::start(words, p, by);
     let n = remaining::actions_left(state);
+    let mut ready = unblocked(rows, ROWS * r, state.waiting, state.computes);
     let mut block = [0u16; RULE_WORDS];
     block[0] = n as u16;
     for j in 0..n {
-        let step = next(words, p, r, by, rows, state);
+        let turn = next(words, p, r, by, rows, ready, state);
+        let step = turn.step;
         block[j + 1] = step.action as u16;
         state = step.state;
+        ready = turn.ready;
     }
     block
 }

@@ -3,22 +3,28 @@
 use borrow.Author.Needs.{needs}
 use Prim.Native.Nat.{_-_}
 use Rattle.sequencing.proofs.WritingLaws.{shaped-given, Writing, writing-start, writing-left, writing-turn, writing-finish}
-use Rattle.sequencing.proofs.GivenLaws.{place-small, tabled-given}
+use Rattle.sequencing.proofs.GivenLaws.{place-small, tabled-given, rows-ready}
 use Rattle.sequencing.specs.Given.{setWords}
 use Rattle.sequencing.proofs.words_of.Statement.{statement}
 use Rattle.sequencing.proofs.words_of.Tie as tie
 
 abbrev Inv-loop : tie.InvT-loop
-Inv-loop words p r by rows state₀ n block₀ j₀ state block j = Writing words (setWords words) by rows p r n block (state .computes) (state .visits) (state .leaves) (state .waiting) (state .wanted) j
+Inv-loop words p r by rows state₀ n ready₀ block₀ j₀ state ready block j = Writing words (setWords words) by rows p r n block (state .computes) (state .visits) (state .leaves) (state .waiting) (state .wanted) ready j
 
 abbrev μ-loop : tie.MeasureT-loop
-μ-loop words p r by rows state₀ n block₀ j₀ state block j = n - j
+μ-loop words p r by rows state₀ n ready₀ block₀ j₀ state ready block j = n - j
 
 start-requires : tie.Need-start-requires Inv-loop μ-loop
 start-requires c κs = (search place-small, (search shaped-given, search tabled-given))
 
 actions-left-requires : tie.Need-actions-left-requires Inv-loop μ-loop
 actions-left-requires c κs = search needs
+
+mul-unblocked : tie.Need-mul-unblocked Inv-loop μ-loop
+mul-unblocked c = search needs
+
+unblocked-requires : tie.Need-unblocked-requires Inv-loop μ-loop
+unblocked-requires c κs = search rows-ready
 
 cast-block : tie.Need-cast-block Inv-loop μ-loop
 cast-block c = search needs
@@ -30,7 +36,7 @@ loop-holds : tie.Need-loop-holds Inv-loop μ-loop
 loop-holds c = search writing-start
 
 next-requires : tie.Need-next-requires Inv-loop μ-loop
-next-requires c κs = (search needs, (search needs, (search (writing-left, needs), search needs)))
+next-requires c κs = (search needs, (search needs, (search (writing-left, needs), (search needs, search needs))))
 
 cast-block-2 : tie.Need-cast-block-2 Inv-loop μ-loop
 cast-block-2 c = search needs
@@ -64,6 +70,8 @@ words-of-spec =
     μ-loop
     start-requires
     actions-left-requires
+    mul-unblocked
+    unblocked-requires
     cast-block
     array-write-block
     loop-holds
