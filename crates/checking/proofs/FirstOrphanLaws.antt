@@ -1,28 +1,31 @@
 -- The walk up the nodes that finds the first one without a parent. Once a node is passed nothing is written for it any more, so at the end each node's
 -- symbol is the one that its parent wants, or it has no parent. Assumes nothing.
-use Prim.Native.Nat.{ℕ, zero, suc, _+_, _*_, _-_, _≤_, _<_}
+use Prim.Native.Nat.{ℕ, zero, suc, _+_, _*_, _-_, _/_, _%_, _≤_, _<_}
 use mathlib.Core.Path.{_≡_, refl, sym, _∙_, ap, subst, subst⁻¹}
 use mathlib.Core.Logic.{_⊎_, inl, inr, ⊎-elim}
 use mathlib.Core.Bool.{true, false, cond}
 use mathlib.Core.List.{List}
 use native.Mathlib.Omega.{arith}
 use native.Mathlib.Nat.{not-suc-le-zero}
-use lib.Dec.{T, ltb, eqb, lt→ltb}
+use lib.Dec.{T, ltb, leb, eqb, eqb→eq, lt→ltb, leb→le}
 use lib.ListN.{getD, set, length-set, replicate, length-replicate, getD-replicate}
 use lib.Seq.{getD-set-same, getD-set-other}
 use borrow.Author.Tests.{le-ltb, eq-eqb, ne-eqb}
-use Rattle.basics.specs.Tests.{all, count}
+use Rattle.basics.specs.Tests.{_and_, all, count}
 use Rattle.basics.specs.Lists.{word}
-use Rattle.basics.proofs.TestLaws.{same-or-not, below-or-not, below-suc, eq-T, false-T, chosen, passed-over, all-intro}
+use Rattle.basics.proofs.CountingLaws.{count-up, count-find}
+use Rattle.basics.proofs.TestLaws.{same-or-not, below-or-not, below-suc, eq-T, true-T, false-T, chosen, passed-over, and-left, and-right, all-at, all-intro}
 use Rattle.refusals.specs.declared.Refusal.the-variants.{ChildDiffers, NotOneParent}
+use Rattle.grammar.specs.declared.Verdict.the-variants.{Good}
 use Rattle.grammar.specs.Table.{symbols, start, symbolOf}
 use Rattle.grammar.specs.Verdicts.{unless}
 use Rattle.grammar.proofs.AcceptedTable.{accepted}
-use Rattle.grammar.proofs.VerdictLaws.{unless-good, each-good}
+use Rattle.grammar.proofs.VerdictLaws.{unless-passes, unless-good, each-at, each-good}
 use Rattle.trees.specs.Tree.{mostNodes, nodes, ruleOf, child, usedSlots, symbolAtNode}
 use Rattle.trees.specs.Checking.{nodeFault, rootIsStart, childrenFit, namesNode, onceChild}
-use Rattle.checking.specs.Walk.{Ready, slotNames, noSymbol, NodeRead, unsure, orphanAfter, Nobody, Somebody, Walked, OneWalk}
-use Rattle.checking.proofs.OneWalkLaws.{small-symbol}
+use Rattle.checking.specs.Walk.{Ready, slotNames, noSymbol, Refuses, NodeRead, Unread, unsure, orphanAfter, Nobody, Somebody, Walked, Apart, OneWalk}
+use Rattle.checking.proofs.OneWalkLaws.{small-symbol, node-known, node-slots, slot-both, new-not, used-names}
+use Rattle.checking.proofs.WholeCheckLaws.{used-seven}
 use Rattle.checking.proofs.NameLaws.{count-on, node-names}
 
 -- ---- the first node without a parent, node by node
@@ -80,6 +83,38 @@ walk-start g offsets t end x y w e some few d f =
       orphanIs = inl refl;
     }
 
+-- how often node m is named, with one node more
+counted : (g t : List ℕ) (n m : ℕ) → usedSlots g t n ≤ 7
+    → count (8 * (n + 1)) (λ k. namesNode g t m k) ≡ count (8 * n) (λ k. namesNode g t m k) + slotNames t n m (usedSlots g t n)
+counted g t n m h =
+    let p : 8 * (n + 1) ≡ 8 * n + 8 = omega arith in
+    omega (
+      arith,
+      ap (λ (k : ℕ). count k (λ k. namesNode g t m k)) p,
+      count-on (8 * n) 8 (λ k. namesNode g t m k),
+      node-names g t n m h,
+    )
+
+-- a word of the tree that names node m is a used slot
+module _ (g t : List ℕ) (m k : ℕ) (y : T (namesNode g t m k)) where
+  names-parts : T (leb 1 (k % 8) and leb (k % 8) (usedSlots g t (k / 8)) and eqb (word t k) m)
+  unfolding namesNode
+  names-parts = y
+
+  names-rest : T (leb (k % 8) (usedSlots g t (k / 8)) and eqb (word t k) m)
+  names-rest = and-right (leb 1 (k % 8)) (leb (k % 8) (usedSlots g t (k / 8)) and eqb (word t k) m) names-parts
+
+  names-first : 1 ≤ k % 8
+  names-first = leb→le 1 (k % 8) (and-left (leb 1 (k % 8)) (leb (k % 8) (usedSlots g t (k / 8)) and eqb (word t k) m) names-parts)
+
+  names-last : k % 8 ≤ usedSlots g t (k / 8)
+  names-last = leb→le (k % 8) (usedSlots g t (k / 8)) (and-left (leb (k % 8) (usedSlots g t (k / 8))) (eqb (word t k) m) names-rest)
+
+  names-it : child t (k / 8) (suc (k % 8 - 1)) ≡ m
+  names-it =
+      let q : 8 * (k / 8) + suc (k % 8 - 1) ≡ k = omega (arith, names-first) in
+      ap (word t) q ∙ eqb→eq (word t k) m (and-right (leb (k % 8) (usedSlots g t (k / 8))) (eqb (word t k) m) names-rest)
+
 module _ (g t wanted : List ℕ) (n orphan end : ℕ) (w : Walked g t wanted n orphan end) where
   module _ (next : List ℕ) (symbol written o : ℕ) (h : n < end) (v : NodeRead wanted next g t n symbol) (e : written ≡ getD next n 0)
       (f : o ≡ orphanAfter orphan end n symbol written) (l : o ≤ end) where
@@ -108,25 +143,14 @@ module _ (g t wanted : List ℕ) (n orphan end : ℕ) (w : Walked g t wanted n o
     stays m b s =
         ⊎-elim (λ a. a .same) (λ a. absurd (omega (arith, a .free))) (v .written .names m (omega (arith, w .size)))
 
-    -- one node more
-    counted : (m : ℕ) → count (8 * (n + 1)) (λ k. namesNode g t m k) ≡ count (8 * n) (λ k. namesNode g t m k) + slotNames t n m (usedSlots g t n)
-    counted m =
-        let p : 8 * (n + 1) ≡ 8 * n + 8 = omega arith in
-        omega (
-          arith,
-          ap (λ (k : ℕ). count k (λ k. namesNode g t m k)) p,
-          count-on (8 * n) 8 (λ k. namesNode g t m k),
-          node-names g t n m (v .short),
-        )
-
     name : (m : ℕ) → 1 ≤ m → m < mostNodes → Nobody g t next (n + 1) m ⊎ Somebody g t next (n + 1) m
     name m b c =
         ⊎-elim
         (λ a.
-        ⊎-elim (λ x. inl record { free = a .same ∙ x .free; none = omega (arith, counted m, a .unnamed, x .none) })
-        (λ x. inr record { taken = omega (arith, a .same, x .taken); once = omega (arith, counted m, a .unnamed, x .once) }) (w .names m b c))
+        ⊎-elim (λ x. inl record { free = a .same ∙ x .free; none = omega (arith, counted g t n m (v .short), a .unnamed, x .none) })
+        (λ x. inr record { taken = omega (arith, a .same, x .taken); once = omega (arith, counted g t n m (v .short), a .unnamed, x .once) }) (w .names m b c))
         (λ a.
-        ⊎-elim (λ x. inr record { taken = a .taken; once = omega (arith, counted m, a .once, x .none) })
+        ⊎-elim (λ x. inr record { taken = a .taken; once = omega (arith, counted g t n m (v .short), a .once, x .none) })
         (λ x. absurd (omega (arith, a .free, x .taken))) (w .names m b c)) (v .written .names m (omega (arith, w .size)))
 
     upTo : (k : ℕ) → k < n + 1 → (k < n) ⊎ (k ≡ n)
@@ -204,6 +228,81 @@ module _ (g t wanted : List ℕ) (n orphan end : ℕ) (w : Walked g t wanted n o
       → Walked g t next (n + 1) o end
   walk-past next symbol x y o h d v e k f l = walk-turn next symbol y o h (v d) (k ∙ e) f l
 
+  -- ---- where the walk is not sure, the tree is not one that it can answer for
+  module _ (h : n < end) (a : Apart g t) where
+    passed : nodeFault g t n ≡ Good
+    passed = each-at (nodes t) (λ n. nodeFault g t n) (a .passes) n (omega (arith, w .endIs))
+
+    seven : usedSlots g t n ≤ 7
+    seven = used-seven g t n (w .good) (node-known g t n passed)
+
+    few-names : (m : ℕ) → 1 ≤ m → m < nodes t → count (8 * n) (λ k. namesNode g t m k) + slotNames t n m (usedSlots g t n) ≤ 1
+    few-names m b c =
+        omega (arith, counted g t n m seven, count-up (λ k. namesNode g t m k) (8 * (n + 1)) (8 * nodes t) (omega (arith, w .endIs)), a .once m b c)
+
+    not-refused : Refuses wanted t n (usedSlots g t n) → ⊥
+    not-refused r =
+        let both = slot-both g t n (usedSlots g t n) refl (node-slots g t n passed) (r .slot) (omega (arith, seven, r .inUse)) (r .inUse) in
+        let few = few-names (child t n (suc (r .slot))) (omega (arith, both .0)) (both .1) in
+        ⊎-elim
+        (λ e.
+        ⊎-elim (λ x. new-not wanted t n (child t n (suc (r .slot))) e (both .0) (both .1) (x .free))
+        (λ x. omega (arith, few, x .once, used-names t n (usedSlots g t n) (r .slot) (r .inUse)))
+        (w .names (child t n (suc (r .slot))) (omega (arith, both .0)) (omega (arith, both .1, w .endIs, w .few)))) (λ e. omega (arith, few)) (r .why)
+
+    not-unread : Unread wanted g t n → ⊥
+    not-unread (inl d) = d passed
+    not-unread (inr r) = not-refused r
+
+    root-is : symbolAtNode g t 0 ≡ start g
+    unfolding rootIsStart
+    root-is = eqb→eq (symbolAtNode g t 0) (start g) (true-T _ (a .root))
+
+    child-is : (k i : ℕ) → k < n → i < usedSlots g t k → symbolAtNode g t (child t k (suc i)) ≡ symbolOf g (ruleOf t k) (suc i)
+    unfolding childrenFit
+    child-is k i b c =
+        eqb→eq (symbolAtNode g t (child t k (suc i))) (symbolOf g (ruleOf t k) (suc i))
+        (all-at (usedSlots g t k) (λ i. eqb (symbolAtNode g t (child t k (suc i))) (symbolOf g (ruleOf t k) (suc i)))
+        (unless-passes _ _
+        (each-at (nodes t) (λ n. unless (childrenFit g t n) (ChildDiffers n)) (a .children) k (omega (arith, w .endIs)))) i c)
+
+    -- what is written down is the symbol, since the parent's children fit
+    by-parent : count (8 * n) (λ k. namesNode g t n k) ≡ 1 → word wanted n ≡ symbolAtNode g t n
+    by-parent e =
+        let f = count-find (λ k. namesNode g t n k) (8 * n) (omega (arith, e)) in
+        let k = f .0 in
+        let l : k / 8 < n = omega (arith, f .1) in
+        let u : k % 8 - 1 < usedSlots g t (k / 8) = omega (arith, names-first g t n k (f .2), names-last g t n k (f .2)) in
+        let q : child t (k / 8) (suc (k % 8 - 1)) ≡ n = names-it g t n k (f .2) in
+        ap (word wanted) (sym q)
+        ∙ (w .symbol (k / 8) (k % 8 - 1) l u ∙ (sym (child-is (k / 8) (k % 8 - 1) l u) ∙ ap (symbolAtNode g t) q))
+
+    well-written : (word wanted n ≡ noSymbol → ⊥) → word wanted n ≡ symbolAtNode g t n
+    well-written d =
+        ⊎-elim (λ q. ap (word wanted) q ∙ (w .root ∙ (sym root-is ∙ ap (symbolAtNode g t) (sym q))))
+        (λ q.
+        ⊎-elim (λ x. absurd (d (x .free))) (λ x. by-parent (x .once)) (w .names n (omega arith) (omega (arith, w .few))))
+        (same-or-not n 0)
+
+  pub past-unread : (symbol : ℕ) → n < end → symbol ≡ noSymbol → (symbol ≡ noSymbol → Unread wanted g t n) → end < unsure → Apart g t → ⊥
+  past-unread symbol h e u l a = not-unread h a (u e)
+
+  pub past-differs : (next : List ℕ) (symbol x y o : ℕ) → n < end → (symbol ≡ noSymbol → ⊥)
+      → ((symbol ≡ noSymbol → ⊥) → NodeRead wanted next g t n symbol) → x ≡ getD next n 0 → y ≡ x → o ≡ orphanAfter orphan end n symbol y → end < o
+      → Apart g t → ⊥
+  past-differs next symbol x y o h d v e k f l a =
+      let own : y ≡ word wanted n = k ∙ (e ∙ v d .written .under n (omega arith)) in
+      ⊎-elim (λ q. omega (arith, f ∙ sym (orphan-same orphan end n symbol y q), w .inside))
+      (λ q.
+      ⊎-elim
+      (λ z.
+      ⊎-elim (λ b. omega (arith, f ∙ sym (orphan-before orphan end n symbol y q z b)))
+      (λ b. omega (arith, f ∙ sym (orphan-here orphan end n symbol y q z b))) (below-or-not orphan end))
+      (λ z. q (own ∙ (well-written h a (λ i. z (own ∙ i)) ∙ sym (v d .fits .symbolIs)))) (same-or-not y noSymbol)) (same-or-not y symbol)
+
+  pub walk-within : end < orphan → Apart g t → ⊥
+  walk-within h a = omega (arith, w .inside)
+
   pub walk-unsure : (next : List ℕ) → unsure ≤ end → Walked g t next (n + 1) unsure end
   walk-unsure next h = absurd (omega (arith, w .few))
 
@@ -250,20 +349,29 @@ module _ (g t wanted : List ℕ) (n orphan end : ℕ) (w : Walked g t wanted n o
       ⊎-elim (λ x. ne-eqb (count (8 * nodes t) (λ j. namesNode g t (suc k) j)) 1 (λ q. omega (arith, counts (suc k), x .none)))
       (λ x. absurd (omega (arith, x .taken))) (w .names (suc k) (omega arith) (omega (arith, w .endIs, w .few)))
 
+  few-times : (m : ℕ) → 1 ≤ m → m < nodes t → count (8 * nodes t) (λ k. namesNode g t m k) ≤ 1
+  few-times m b c =
+      ⊎-elim (λ x. omega (arith, counts m, x .none)) (λ x. omega (arith, counts m, x .once)) (w .names m b (omega (arith, w .endIs, w .few)))
+
   walk-end : OneWalk g t orphan
   walk-end =
       record {
-        passes = each-good (nodes t) (λ n. nodeFault g t n) (λ k b. w .passes k (omega (arith, is-end)));
-        root = root-fits;
-        children = each-good (nodes t) (λ n. unless (childrenFit g t n) (ChildDiffers n)) (λ k b. unless-good _ _ (children-fit k b));
+        apart = record {
+          passes = each-good (nodes t) (λ n. nodeFault g t n) (λ k b. w .passes k (omega (arith, is-end)));
+          root = root-fits;
+          children = each-good (nodes t) (λ n. unless (childrenFit g t n) (ChildDiffers n)) (λ k b. unless-good _ _ (children-fit k b));
+          once = few-times;
+        };
         parents = each-good orphan (λ n. unless (onceChild g t n) (NotOneParent n)) (λ k b. unless-good _ _ (has-parent k b));
-        lost = λ b.
-            ⊎-elim (λ q. absurd (omega (arith, w .endIs))) (λ q. no-parent orphan b (q .1)) (w .orphanIs);
+        lost = λ b. ⊎-elim (λ q. absurd (omega (arith, w .endIs))) (λ q. no-parent orphan b (q .1)) (w .orphanIs);
       }
 
 -- an answer past every number of nodes claims nothing
 pub not-sure : (g t : List ℕ) (end : ℕ) → end ≤ mostNodes → unsure ≤ end → OneWalk g t unsure
 not-sure g t end few h = absurd (omega arith)
+
+pub still-unsure : (g t : List ℕ) (end o : ℕ) → (end < o → Apart g t → ⊥) → end < o → end < unsure → Apart g t → ⊥
+still-unsure g t end o f h l a = f h a
 
 -- the walk goes on where the answer is a number of nodes
 pub walk-next : (g t wanted : List ℕ) (n orphan end : ℕ) → (orphan ≤ end → Walked g t wanted n orphan end) → orphan ≤ end → Walked g t wanted n orphan end

@@ -7,23 +7,24 @@ use mathlib.Core.Bool.{Bool, true, false, cond, not}
 use mathlib.Core.List.{List}
 use native.Mathlib.Omega.{arith}
 use native.Mathlib.Nat.{not-suc-le-zero}
-use lib.Dec.{T, ltb, leb, eqb, eqb→eq, ltb→lt, lt→ltb, le→leb}
+use lib.Dec.{T, ltb, leb, eqb, eqb→eq, ltb→lt, lt→ltb, le→leb, T-not}
 use lib.ListN.{length, getD, set, length-set}
 use lib.Seq.{getD-set-same, getD-set-other}
 use borrow.Author.Tests.{le-ltb, lt-leb, eq-eqb, ne-eqb}
 use Rattle.basics.specs.Tests.{_and_, all, count}
 use Rattle.basics.specs.Lists.{word}
+use Rattle.basics.proofs.CountingLaws.{count-up}
 use Rattle.basics.proofs.TestLaws.{same-test, same-or-not, below-or-not, below-suc, eq-T, true-T, false-T, chosen, passed-over, and-passed, and-failed, and-intro, and-left, and-right, all-at, all-intro}
 use Rattle.grammar.specs.declared.Verdict.the-variants.{Good}
 use Rattle.grammar.specs.Limits.{mostRules}
 use Rattle.grammar.specs.Table.{symbols, rules, nonterminal, lengthAt, ruleAt, rightLength, symbolOf}
 use Rattle.grammar.specs.Reading.{readTable}
 use Rattle.grammar.proofs.AcceptedTable.{accepted}
-use Rattle.grammar.proofs.VerdictLaws.{then-good, unless-good}
+use Rattle.grammar.proofs.VerdictLaws.{then-first, then-second, then-good, unless-passes, unless-good}
 use Rattle.trees.specs.Tree.{terminalMark, nodes, ruleOf, appliesRule, child, usedSlots, symbolAtNode}
 use Rattle.trees.specs.Checking.{knownWord, slotFits, slotsFit, nodeFault}
-use Rattle.checking.specs.Walk.{Ready, slotNames, unusedWord, unusedEmpty, noSymbol, OnNode, isNew, Writing, Kept, Fresh, Written, AtRule, AtTerminal, NodeFits, NodeRead}
-use Rattle.checking.proofs.NodeTestLaws.{starts-there, rule-room, few-rules, known-rule, known-terminal, used-none, symbol-terminal}
+use Rattle.checking.specs.Walk.{Ready, slotNames, unusedWord, unusedEmpty, noSymbol, OnNode, isNew, Writing, Kept, Fresh, Written, Refuses, AtRule, AtTerminal, NodeFits, NodeRead, Unread}
+use Rattle.checking.proofs.NodeTestLaws.{starts-there, rule-room, few-rules, known-rule, known-terminal, known-nothing, used-none, symbol-terminal}
 use Rattle.checking.proofs.NameLaws.{slot-count}
 
 -- ---- the slots that are not used
@@ -239,6 +240,57 @@ module _ (entry g t : List ℕ) (n p used : ℕ) where
             };
           }
 
+-- ---- where a slot names no new node
+
+-- more slots name a node no less often
+slots-up : (t : List ℕ) (n m a b : ℕ) → a ≤ b → slotNames t n m a ≤ slotNames t n m b
+unfolding slotNames
+slots-up t n m a b h = count-up (λ i. eqb (child t n (suc i)) m) a b h
+
+-- the slot i names its own child
+slot-named : (t : List ℕ) (n i : ℕ) → slotNames t n (child t n (suc i)) (i + 1) ≡ slotNames t n (child t n (suc i)) i + 1
+slot-named t n i =
+    let v : _≡_ {A = ℕ} (cond (eqb (child t n (suc i)) (child t n (suc i))) 1 0) 1 =
+    ap {B = ℕ} (λ (x : Bool). cond x 1 0) (eq-eqb (child t n (suc i)) (child t n (suc i)) refl) in
+    omega (arith, slot-count t n (child t n (suc i)) i, v)
+
+pub used-names : (t : List ℕ) (n used i : ℕ) → i < used → 1 ≤ slotNames t n (child t n (suc i)) used
+used-names t n used i h = omega (arith, slot-named t n i, slots-up t n (child t n (suc i)) (i + 1) used (omega arith))
+
+-- a node above for which something is written is not new
+pub new-not : (wanted t : List ℕ) (n c : ℕ) → isNew wanted t n c ≡ false → n < c → c < nodes t → word wanted c ≡ noSymbol → ⊥
+new-not wanted t n c e h l z =
+    T-not (isNew wanted t n c) (false-T _ e) (subst (λ (b : Bool). T b) (new-tested wanted t n c h l) (eq-T (word wanted c) noSymbol z))
+
+module _ (entry g t : List ℕ) (n p used : ℕ) (now : List ℕ) (i : ℕ) (w : WrittenTo entry g t n p used now i) (h : i < used) where
+  taken-why : (c : ℕ) → c ≡ child t n (suc i) → n < c → c < nodes t → (word now c ≡ noSymbol → ⊥)
+      → (isNew entry t n (child t n (suc i)) ≡ false) ⊎ (2 ≤ slotNames t n (child t n (suc i)) used)
+  taken-why c q a l d =
+      ⊎-elim
+      (λ k. inl (ap (isNew entry t n) (sym q) ∙ (sym (new-tested entry t n c a l) ∙ ne-eqb (word entry c) noSymbol (λ z. d (k .same ∙ z)))))
+      (λ k.
+      let o : slotNames t n (child t n (suc i)) i ≡ 1 = subst (λ (x : ℕ). slotNames t n x i ≡ 1) q (k .once) in
+      inr (omega (arith, slot-named t n i, slots-up t n (child t n (suc i)) (i + 1) used (omega arith))))
+      (w .written .names c (omega (arith, w .writing .on .size, w .writing .on .few)))
+
+  pub write-refused : (c : ℕ) (u : Bool) → c ≡ getD t (8 * n + i + 1) 0 → u ≡ isNew now t n c → u ≡ false → Refuses entry t n used
+  write-refused c u e new d =
+      let r : 8 * n + i + 1 ≡ 8 * n + suc i = omega arith in
+      let q : c ≡ child t n (suc i) = e ∙ ap (λ (x : ℕ). getD t x 0) r in
+      record {
+        slot = i;
+        inUse = h;
+        why =
+            ⊎-elim
+            (λ a.
+            ⊎-elim (λ l. taken-why c q a l (new-not now t n c (sym new ∙ d) a l))
+            (λ l. inl (ap (isNew entry t n) (sym q) ∙ sym (new-past entry t n c a l))) (below-or-not c (nodes t)))
+            (λ a. inl (ap (isNew entry t n) (sym q) ∙ sym (new-low entry t n c a))) (below-or-not n c);
+      }
+
+pub none-refused : (entry t : List ℕ) (n used : ℕ) → true ≡ false → Refuses entry t n used
+none-refused entry t n used e = absurd (let z : _≡_ {A = ℕ} 1 0 = ap (λ (b : Bool). cond b 1 0) e in omega arith)
+
 pub never : (entry now g t : List ℕ) (n p used : ℕ) → false ≡ true → Written entry now g t n p used
 never entry now g t n p used e = absurd (let z : _≡_ {A = ℕ} 0 1 = ap (λ (b : Bool). cond b 1 0) e in omega arith)
 
@@ -266,6 +318,49 @@ slots-pass g t n used e u above inside =
 node-passes : (g t : List ℕ) (n : ℕ) → T (knownWord g t n) → T (slotsFit g t n) → nodeFault g t n ≡ Good
 unfolding nodeFault
 node-passes g t n k s = then-good _ _ (unless-good _ _ k) (unless-good _ _ s)
+
+-- and back
+pub node-known : (g t : List ℕ) (n : ℕ) → nodeFault g t n ≡ Good → T (knownWord g t n)
+unfolding nodeFault
+node-known g t n e = unless-passes _ _ (then-first _ _ e)
+
+pub node-slots : (g t : List ℕ) (n : ℕ) → nodeFault g t n ≡ Good → T (slotsFit g t n)
+unfolding nodeFault
+node-slots g t n e = unless-passes _ _ (then-second _ _ e)
+
+module _ (g t : List ℕ) (n used : ℕ) (e : used ≡ usedSlots g t n) (s : T (slotsFit g t n)) where
+  slot-fits : (i : ℕ) → i < 7 → T (cond (leb (suc i) used) (ltb n (child t n (suc i)) and ltb (child t n (suc i)) (nodes t)) (eqb (child t n (suc i)) 0))
+  unfolding slotsFit slotFits
+  slot-fits i l =
+      subst⁻¹ (λ (x : ℕ). T (cond (leb (suc i) x) (ltb n (child t n (suc i)) and ltb (child t n (suc i)) (nodes t)) (eqb (child t n (suc i)) 0))) e
+      (all-at 7 (λ i. slotFits g t n (suc i)) s i l)
+
+  pub slot-both : (i : ℕ) → i < 7 → i < used → (n < child t n (suc i)) × (child t n (suc i) < nodes t)
+  slot-both i l h =
+      let b = subst (λ (x : Bool). T x) (chosen (leb (suc i) used) _ _ (le→leb (suc i) used h)) (slot-fits i l) in (
+        ltb→lt n (child t n (suc i)) (and-left (ltb n (child t n (suc i))) (ltb (child t n (suc i)) (nodes t)) b),
+        ltb→lt (child t n (suc i)) (nodes t) (and-right (ltb n (child t n (suc i))) (ltb (child t n (suc i)) (nodes t)) b),
+      )
+
+  slots-empty : T (unusedEmpty t n used)
+  unfolding unusedEmpty unusedWord
+  slots-empty =
+      all-intro 7 (λ i. eqb (cond (leb (suc i) used) 0 (child t n (suc i))) 0)
+      (λ i l.
+      ⊎-elim (λ h. eq-T (cond (leb (suc i) used) 0 (child t n (suc i))) 0 (chosen (leb (suc i) used) 0 (child t n (suc i)) (le→leb (suc i) used h)))
+      (λ h.
+      let f : T (not (leb (suc i) used)) = false-T _ (lt-leb (suc i) used (omega arith)) in
+      subst⁻¹ (λ (x : ℕ). T (eqb x 0)) (passed-over (leb (suc i) used) 0 (child t n (suc i)) f)
+      (subst (λ (x : Bool). T x) (passed-over (leb (suc i) used) _ _ f) (slot-fits i l))) (below-or-not i used))
+
+-- a node with a slot that should be empty and is not
+not-empty : (g t : List ℕ) (n used : ℕ) (u : Bool) → used ≡ usedSlots g t n → u ≡ unusedEmpty t n used → u ≡ false → nodeFault g t n ≡ Good → ⊥
+not-empty g t n used u e f i y =
+    T-not (unusedEmpty t n used) (false-T _ (sym f ∙ i)) (slots-empty g t n used e (node-slots g t n y))
+
+-- a node whose first word is unknown
+not-known : (g t : List ℕ) (n : ℕ) → false ≡ knownWord g t n → nodeFault g t n ≡ Good → ⊥
+not-known g t n e y = T-not (knownWord g t n) (false-T _ (sym e)) (node-known g t n y)
 
 -- a symbol of an accepted grammar is none that stands for no symbol
 pub small-symbol : (g : List ℕ) (x : ℕ) → readTable g ≡ Good → x < symbols g → x < noSymbol
@@ -315,6 +410,11 @@ module _ (before g t : List ℕ) (n p : ℕ) (w : AtRule before g t n p) where
     unfolding symbolAtNode
     symbol-is = left-is ∙ sym (chosen (appliesRule t n) (symbolOf g (ruleOf t n) 0) _ (lt→ltb (ruleOf t n) terminalMark (w .applies)))
 
+    left-small : word g p < noSymbol
+    left-small =
+        small-symbol g (word g p) (w .good)
+        (subst⁻¹ (λ (x : ℕ). x < symbols g) left-is (accepted g (w .good) .rule (ruleOf t n) (w .below) .symbolsFit 0 (omega arith)))
+
     pub rule-read : (after : List ℕ) (symbol : ℕ) (u v : Bool) → u ≡ unusedEmpty t n used → u ≡ true → (v ≡ true → Written before after g t n p used)
         → v ≡ true → symbol ≡ getD g p 0 → (symbol ≡ noSymbol → ⊥) → NodeRead before after g t n symbol
     rule-read after symbol u v h i j k q d =
@@ -323,14 +423,21 @@ module _ (before g t : List ℕ) (n p : ℕ) (w : AtRule before g t n p) where
           fits = record {
             passes = node-passes g t n known (slots-pass g t n used used-is (sym h ∙ i) (z .above) (z .inside));
             symbolIs = q ∙ symbol-is;
-            small =
-                small-symbol g symbol (w .good)
-                (subst⁻¹ (λ (x : ℕ). x < symbols g) (q ∙ left-is) (accepted g (w .good) .rule (ruleOf t n) (w .below) .symbolsFit 0 (omega arith)));
+            small = omega (arith, left-small);
           };
           short = omega (arith, used-is, short);
           written =
               subst (λ (x : ℕ). Written before after g t n x (usedSlots g t n)) (w .rule) (subst (λ (x : ℕ). Written before after g t n p x) used-is z);
         }
+
+    pub rule-filled : (u : Bool) → u ≡ unusedEmpty t n used → u ≡ false → noSymbol ≡ noSymbol → Unread before g t n
+    rule-filled u h i y = inl (not-empty g t n used u used-is h i)
+
+    pub rule-refused : (v : Bool) → (v ≡ false → Refuses before t n used) → v ≡ false → noSymbol ≡ noSymbol → Unread before g t n
+    rule-refused v h i y = inr (subst (λ (x : ℕ). Refuses before t n x) used-is (h i))
+
+    pub rule-always : (symbol : ℕ) → symbol ≡ getD g p 0 → symbol ≡ noSymbol → Unread before g t n
+    rule-always symbol q y = absurd (omega (arith, left-small))
 
 -- where there is no symbol, nothing is claimed
 pub none-read : (before after g t : List ℕ) (n : ℕ) → (noSymbol ≡ noSymbol → ⊥) → NodeRead before after g t n noSymbol
@@ -377,6 +484,30 @@ terminal-fits g t n x s u v w e h f i j k d =
       symbolIs = w .terminal ∙ symbol-terminal g t n (ruleOf t n) refl (w .mark);
       small = small-symbol g x (w .good) (omega arith);
     }
+
+module _ (g t : List ℕ) (n x s : ℕ) (w : AtTerminal g t n x) (e : s ≡ symbols g) where
+  pub terminal-past : s ≤ x → noSymbol ≡ noSymbol → nodeFault g t n ≡ Good → ⊥
+  terminal-past h y =
+      not-known g t n (known-nothing g t n (ruleOf t n) (symbols g) refl (w .mark) refl (omega (arith, w .terminal)))
+
+  module _ (u : Bool) (h : x < s) (f : u ≡ nonterminal g x) where
+    pub terminal-not : u ≡ true → noSymbol ≡ noSymbol → nodeFault g t n ≡ Good → ⊥
+    terminal-not i y =
+        not-known g t n
+        (sym (ap not i)
+        ∙ known-terminal g t n (ruleOf t n) (symbols g) u refl (w .mark) refl (omega (arith, w .terminal)) (f ∙ ap (nonterminal g) (w .terminal)))
+
+  pub terminal-filled : (v : Bool) → v ≡ unusedEmpty t n 0 → v ≡ false → noSymbol ≡ noSymbol → nodeFault g t n ≡ Good → ⊥
+  terminal-filled v f i y = not-empty g t n 0 v (used-none g t n (ruleOf t n) refl (w .mark)) f i
+
+  pub terminal-always : x < s → x ≡ noSymbol → nodeFault g t n ≡ Good → ⊥
+  terminal-always h y z = omega (arith, small-symbol g x (w .good) (omega arith))
+
+pub unread-terminal : (before g t : List ℕ) (n s : ℕ) → (s ≡ noSymbol → nodeFault g t n ≡ Good → ⊥) → s ≡ noSymbol → Unread before g t n
+unread-terminal before g t n s h e = inl (h e)
+
+pub unread-rule : (before g t : List ℕ) (n r m : ℕ) → r ≡ ruleOf t n → r < terminalMark → m ≡ rules g → m ≤ r → noSymbol ≡ noSymbol → Unread before g t n
+unread-rule before g t n r m e h f l y = inl (not-known g t n (sym (le-ltb r m l) ∙ known-rule g t n r m e h f))
 
 pub terminal-read : (before g t : List ℕ) (n r s : ℕ) → r ≡ getD t (8 * n) 0 → terminalMark ≤ r → ((s ≡ noSymbol → ⊥) → NodeFits g t n s)
     → (s ≡ noSymbol → ⊥) → NodeRead before before g t n s

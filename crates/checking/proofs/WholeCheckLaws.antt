@@ -22,6 +22,7 @@ use Rattle.refusals.specs.declared.Refusal.the-variants.{
 use Rattle.grammar.specs.declared.Verdict.{Verdict}
 use Rattle.grammar.specs.declared.Verdict.the-variants.{Good, Refused}
 use Rattle.grammar.specs.Table.{start, rules, rightLength}
+use Rattle.grammar.specs.Reading.{readTable}
 use Rattle.grammar.proofs.AcceptedTable.{accepted}
 use Rattle.grammar.specs.Verdicts.{_then_, unless, each}
 use Rattle.access.proofs.Laws.{each-stop}
@@ -76,13 +77,13 @@ pub fits-true : (t : List ℕ) (u : Bool) → u ≡ sizeFits t → u ≡ true �
 fits-true t u e f = sym f ∙ e
 
 -- a known node uses at most seven slots
-used-seven : (g offsets t : List ℕ) (n : ℕ) → Ready g offsets → T (knownWord g t n) → usedSlots g t n ≤ 7
+pub used-seven : (g t : List ℕ) (n : ℕ) → readTable g ≡ Good → T (knownWord g t n) → usedSlots g t n ≤ 7
 unfolding usedSlots
-used-seven g offsets t n w k =
+used-seven g t n good k =
     ⊎-elim
     (λ a.
     let b : ruleOf t n < rules g = known-below g t n (ruleOf t n) k refl (ltb→lt (ruleOf t n) terminalMark a) in
-    subst⁻¹ (λ (x : ℕ). x ≤ 7) (chosen (appliesRule t n) (rightLength g (ruleOf t n)) 0 a) (accepted g (w .good) .rule (ruleOf t n) b .lengthFits))
+    subst⁻¹ (λ (x : ℕ). x ≤ 7) (chosen (appliesRule t n) (rightLength g (ruleOf t n)) 0 a) (accepted g good .rule (ruleOf t n) b .lengthFits))
     (λ a. subst⁻¹ (λ (x : ℕ). x ≤ 7) (passed-over (appliesRule t n) (rightLength g (ruleOf t n)) 0 a) (omega arith)) (tested (appliesRule t n))
 
 -- what 13 and 14 show
@@ -106,7 +107,7 @@ known-all g offsets t k v w few e f h =
     slot n i l b = all-at 7 (λ i. slotFits g t n (suc i)) (unless-passes (slotsFit g t n) (BadChild n) (then-second _ _ (at n l))) i b
 
     seven : (n : ℕ) → n < nodes t → usedSlots g t n ≤ 7
-    seven n l = used-seven g offsets t n w (unless-passes (knownWord g t n) (NoSuchRule n) (then-first _ _ (at n l)))
+    seven n l = used-seven g t n (w .good) (unless-passes (knownWord g t n) (NoSuchRule n) (then-first _ _ (at n l)))
 
 pub root-known : (g offsets t : List ℕ) (u : Bool) (v : Verdict) → Ready g offsets → u ≡ sizeFits t → u ≡ true → v ≡ each (nodes t) (λ n. nodeFault g t n)
     → v ≡ Good → T (knownWord g t 0)
@@ -217,9 +218,9 @@ module _ (g t : List ℕ) (v orphan : ℕ) (u : Bool) (e : u ≡ sizeFits t) (f 
   past-walk : orphan ≤ nodes t → checkTree g t v ≡ from-17 g t v
   past-walk h =
       past-12 g t v u e f
-      ∙ (good-then (each (nodes t) (λ n. nodeFault g t n)) (from-15 g t v) (w h .passes)
-      ∙ (good-then (unless (rootIsStart g t) RootNotStart) (from-16 g t v) (unless-yes _ _ (w h .root))
-      ∙ good-then (each (nodes t) (λ n. unless (childrenFit g t n) (ChildDiffers n))) (from-17 g t v) (w h .children)))
+      ∙ (good-then (each (nodes t) (λ n. nodeFault g t n)) (from-15 g t v) (w h .apart .passes)
+      ∙ (good-then (unless (rootIsStart g t) RootNotStart) (from-16 g t v) (unless-yes _ _ (w h .apart .root))
+      ∙ good-then (each (nodes t) (λ n. unless (childrenFit g t n) (ChildDiffers n))) (from-17 g t v) (w h .apart .children)))
 
   pub answer-lost : orphan < nodes t → Refused (NotOneParent orphan) ≡ checkTree g t v
   answer-lost h =

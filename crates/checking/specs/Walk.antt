@@ -152,6 +152,12 @@ pub record Written (before after g t : List ℕ) (n p used : ℕ) : Type 0 where
   pub names : (m : ℕ) → m < length before → Kept before after t n used m ⊎ Fresh before after t n used m
   pub under : (m : ℕ) → m ≤ n → word after m ≡ word before m
 
+-- a used slot of node n names no new node above, or one that another of its slots names too
+pub record Refuses (before t : List ℕ) (n used : ℕ) : Type 0 where
+  pub slot : ℕ
+  pub inUse : slot < used
+  pub why : (isNew before t n (child t n (suc slot)) ≡ false) ⊎ (2 ≤ slotNames t n (child t n (suc slot)) used)
+
 -- node n applies the rule at word p
 pub record AtRule (wanted g t : List ℕ) (n p : ℕ) : Type 0 where
   pub good : readTable g ≡ Good
@@ -179,6 +185,10 @@ pub record NodeRead (before after g t : List ℕ) (n symbol : ℕ) : Type 0 wher
   pub fits : NodeFits g t n symbol
   pub short : usedSlots g t n ≤ 7
   pub written : Written before after g t n (ruleAt g (ruleOf t n)) (usedSlots g t n)
+
+-- or else the node is refused by 13 or 14, or names a node that was named before
+abbrev pub Unread : List ℕ → List ℕ → List ℕ → ℕ → Type 0
+Unread before g t n = (nodeFault g t n ≡ Good → ⊥) ⊎ Refuses before t n (usedSlots g t n)
 
 -- the answer of a walk that is not sure
 abbrev pub unsure : ℕ
@@ -218,10 +228,15 @@ pub record Walked (g t wanted : List ℕ) (n orphan end : ℕ) : Type 0 where
   pub before : (k : ℕ) → k < n → k < orphan → word wanted k < noSymbol
   pub orphanIs : (orphan ≡ end) ⊎ ((orphan < n) × (word wanted orphan ≡ noSymbol))
 
--- the tree passes 13 to 16, each node before this one is a child exactly once, and this one is not
-pub record OneWalk (g t : List ℕ) (orphan : ℕ) : Type 0 where
+-- the tree passes 13 to 16, and no node is a child twice
+pub record Apart (g t : List ℕ) : Type 0 where
   pub passes : each (nodes t) (λ n. nodeFault g t n) ≡ Good
   pub root : rootIsStart g t ≡ true
   pub children : each (nodes t) (λ n. unless (childrenFit g t n) (ChildDiffers n)) ≡ Good
+  pub once : (m : ℕ) → 1 ≤ m → m < nodes t → count (8 * nodes t) (λ k. namesNode g t m k) ≤ 1
+
+-- and each node before this one is a child exactly once, but this one is not
+pub record OneWalk (g t : List ℕ) (orphan : ℕ) : Type 0 where
+  pub apart : Apart g t
   pub parents : each orphan (λ n. unless (onceChild g t n) (NotOneParent n)) ≡ Good
   pub lost : orphan < nodes t → onceChild g t orphan ≡ false

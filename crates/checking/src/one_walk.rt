@@ -1,6 +1,6 @@
 // One walk up the nodes that is enough for a tree that passes 13 to 16 and has no node that is a child twice: it finds the first node without a parent.
-// A parent stands before its children, so each node finds written down which symbol its parent's rule wants there. Where anything else may be wrong the
-// walk is not sure, and the walks of their own find the first fault.
+// A parent stands before its children, so each node finds written down which symbol its parent's rule wants there. Of any other tree the walk is not sure,
+// and the walks of their own find the first fault.
 use super::nodes::nonterminal;
 use super::nodes::right_length;
 use access::known;
@@ -8,14 +8,16 @@ use grammar::Offsets;
 use trees::MOST_NODES;
 use trees::TERMINAL_MARK;
 ghost use mathlib.Core.Path.{_≡_};
-ghost use mathlib.Core.Bool.{true};
+ghost use mathlib.Core.Bool.{true, false};
 ghost use Prim.Native.Nat.{_+_, _*_, _≤_, _<_};
 ghost use lib.ListN.{length};
 ghost use Rattle.basics.specs.Lists.{word};
+ghost use Rattle.grammar.specs.declared.Verdict.the-variants.{Good};
 ghost use Rattle.trees.specs.Tree as tree;
+ghost use Rattle.trees.specs.Checking as check;
 ghost use Rattle.checking.specs.Walk as walk;
 
-// Stands for a symbol where there is none, and where a node may be wrong.
+// Stands for a symbol where there is none, and where a node is wrong.
 const NO_SYMBOL: usize = 255;
 
 // More than any number of nodes: the answer of a walk that is not sure.
@@ -86,6 +88,7 @@ fn write_children(
 ) -> bool
     requires { ⌜ walk.Writing (now wanted) (now words) (now t) n p used ⌝ }
     ensures { λ r. ⌜ (r ≡ true → walk.Written (now (wanted .entry)) (now (wanted .exit)) (now (words .entry)) (now (t .entry)) n p used) ⌝ }
+    ensures { λ r. ⌜ (r ≡ false → walk.Refuses (now (wanted .entry)) (now (t .entry)) n used) ⌝ }
 {
     for i in 0..used {
         let child = known(t, 8 * n + i + 1);
@@ -101,6 +104,7 @@ fn write_children(
 fn rule_symbol(wanted: &mut [u8], words: &[u16], t: &[u16], n: usize, p: usize) -> usize
     requires { ⌜ walk.AtRule (now wanted) (now words) (now t) n p ⌝ }
     ensures { λ r. ⌜ ((r ≡ walk.noSymbol → ⊥) → walk.NodeRead (now (wanted .entry)) (now (wanted .exit)) (now (words .entry)) (now (t .entry)) n r) ⌝ }
+    ensures { λ r. ⌜ (r ≡ walk.noSymbol → walk.Unread (now (wanted .entry)) (now (words .entry)) (now (t .entry)) n) ⌝ }
 {
     let used = right_length(words, p);
     if !unused_empty(t, n, used) {
@@ -116,6 +120,7 @@ fn rule_symbol(wanted: &mut [u8], words: &[u16], t: &[u16], n: usize, p: usize) 
 fn terminal_symbol(words: &[u16], t: &[u16], n: usize, x: usize) -> usize
     requires { ⌜ walk.AtTerminal (now words) (now t) n x ⌝ }
     ensures { λ r. ⌜ ((r ≡ walk.noSymbol → ⊥) → walk.NodeFits (now (words .entry)) (now (t .entry)) n r) ⌝ }
+    ensures { λ r. ⌜ (r ≡ walk.noSymbol → check.nodeFault (now (words .entry)) (now (t .entry)) n ≡ Good → ⊥) ⌝ }
 {
     if x >= access::symbols(words) {
         return NO_SYMBOL;
@@ -142,6 +147,7 @@ fn applied_symbol(
     requires { ⌜ walk.OnNode (now wanted) (now t) n ⌝ }
     requires { ⌜ (r ≡ tree.ruleOf (now t) n) × (r < tree.terminalMark) ⌝ }
     ensures { λ v. ⌜ ((v ≡ walk.noSymbol → ⊥) → walk.NodeRead (now (wanted .entry)) (now (wanted .exit)) (now (words .entry)) (now (t .entry)) n v) ⌝ }
+    ensures { λ v. ⌜ (v ≡ walk.noSymbol → walk.Unread (now (wanted .entry)) (now (words .entry)) (now (t .entry)) n) ⌝ }
 {
     if r < access::rules(words) {
         return rule_symbol(wanted, words, t, n, access::rule_at(offsets, r));
@@ -149,11 +155,12 @@ fn applied_symbol(
     NO_SYMBOL
 }
 
-// The symbol of node n, with those of its children written down; none where 13 or 14 may refuse it.
+// The symbol of node n, with those of its children written down; none where 13 or 14 refuses it, or where it names a node that was named before.
 fn node_symbol(wanted: &mut [u8], words: &[u16], offsets: &Offsets, t: &[u16], n: usize) -> usize
     requires { ⌜ walk.Ready (now words) (now offsets) ⌝ }
     requires { ⌜ walk.OnNode (now wanted) (now t) n ⌝ }
     ensures { λ r. ⌜ ((r ≡ walk.noSymbol → ⊥) → walk.NodeRead (now (wanted .entry)) (now (wanted .exit)) (now (words .entry)) (now (t .entry)) n r) ⌝ }
+    ensures { λ r. ⌜ (r ≡ walk.noSymbol → walk.Unread (now (wanted .entry)) (now (words .entry)) (now (t .entry)) n) ⌝ }
 {
     let r = known(t, 8 * n);
     if r < TERMINAL_MARK {
@@ -199,6 +206,7 @@ fn past_node(
     requires { ⌜ walk.Walked (now words) (now t) (now wanted) n orphan nodes ⌝ }
     requires { ⌜ n < nodes ⌝ }
     ensures { λ r. ⌜ (r ≤ nodes → walk.Walked (now (words .entry)) (now (t .entry)) (now (wanted .exit)) (n + 1) r nodes) ⌝ }
+    ensures { λ r. ⌜ (nodes < r → walk.Apart (now (words .entry)) (now (t .entry)) → ⊥) ⌝ }
 {
     let symbol = node_symbol(wanted, words, offsets, t, n);
     if symbol == NO_SYMBOL {
@@ -212,6 +220,7 @@ pub fn first_orphan(words: &[u16], offsets: &Offsets, t: &[u16], nodes: usize) -
     requires { ⌜ walk.Ready (now words) (now offsets) ⌝ }
     requires { ⌜ (nodes ≡ tree.nodes (now t)) × ((1 ≤ nodes) × (nodes ≤ tree.mostNodes)) ⌝ }
     ensures { λ r. ⌜ (r ≤ nodes → walk.OneWalk (now (words .entry)) (now (t .entry)) r) ⌝ }
+    ensures { λ r. ⌜ (nodes < r → walk.Apart (now (words .entry)) (now (t .entry)) → ⊥) ⌝ }
 {
     let mut wanted = [255u8; MOST_NODES];
     wanted[0] = narrow(access::start(words));

@@ -1,5 +1,5 @@
 -- `checking::one_walk::applied_symbol` meets its contract: a word below the number of rules is a rule, and the offsets say where it starts. Assumes nothing.
-use Rattle.checking.proofs.OneWalkLaws.{few-below, at-rule, none-read}
+use Rattle.checking.proofs.OneWalkLaws.{few-below, at-rule, none-read, unread-rule}
 use borrow.Author.Needs.{needs}
 use Rattle.checking.proofs.one_walk.applied_symbol.Statement.{statement}
 use Rattle.checking.proofs.one_walk.applied_symbol.Tie as tie
@@ -20,7 +20,7 @@ returns : tie.Need-returns
 returns c = search needs
 
 returns-2 : tie.Need-returns-2
-returns-2 c = search none-read
+returns-2 c = (search none-read, search unread-rule)
 
 pub applied-symbol-spec : {M : Type 1} → statement M
 applied-symbol-spec =

@@ -2,7 +2,7 @@
 -- of which `orphan` is the first. At the end that holds of the whole tree. Assumes nothing.
 use Prim.Native.Nat.{_-_}
 use Rattle.checking.specs.Walk.{Walked}
-use Rattle.checking.proofs.FirstOrphanLaws.{start-fits, walk-start, walk-next, walk-ends, not-sure}
+use Rattle.checking.proofs.FirstOrphanLaws.{start-fits, walk-start, walk-next, walk-ends, walk-within, not-sure, still-unsure}
 use borrow.Author.Needs.{needs}
 use Rattle.checking.proofs.one_walk.first_orphan.Statement.{statement}
 use Rattle.checking.proofs.one_walk.first_orphan.Tie as tie
@@ -32,7 +32,7 @@ past-node-requires : tie.Need-past-node-requires Inv-loop μ-loop
 past-node-requires c κs = search needs
 
 returns : tie.Need-returns Inv-loop μ-loop
-returns c = search not-sure
+returns c = (search not-sure, search still-unsure)
 
 add-n : tie.Need-add-n Inv-loop μ-loop
 add-n c = search needs
@@ -44,7 +44,7 @@ loop-again : tie.Need-loop-again Inv-loop μ-loop
 loop-again c = search walk-next
 
 returns-2 : tie.Need-returns-2 Inv-loop μ-loop
-returns-2 c = search walk-ends
+returns-2 c = (search walk-ends, search walk-within)
 
 pub first-orphan-spec : {M : Type 1} → statement M
 first-orphan-spec =

@@ -1,5 +1,5 @@
 -- `checking::one_walk::node_symbol` meets its contract: the first word says whether the node applies a rule or is a terminal. Assumes nothing.
-use Rattle.checking.proofs.OneWalkLaws.{at-terminal, terminal-read}
+use Rattle.checking.proofs.OneWalkLaws.{at-terminal, terminal-read, unread-terminal}
 use borrow.Author.Needs.{needs}
 use Rattle.checking.proofs.one_walk.node_symbol.Statement.{statement}
 use Rattle.checking.proofs.one_walk.node_symbol.Tie as tie
@@ -23,7 +23,7 @@ terminal-symbol-requires : tie.Need-terminal-symbol-requires
 terminal-symbol-requires c κs = search at-terminal
 
 returns-2 : tie.Need-returns-2
-returns-2 c = search terminal-read
+returns-2 c = (search terminal-read, search unread-terminal)
 
 pub node-symbol-spec : {M : Type 1} → statement M
 node-symbol-spec =

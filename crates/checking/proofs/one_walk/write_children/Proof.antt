@@ -1,8 +1,8 @@
 -- `checking::one_walk::write_children` meets its contract: the invariant WrittenTo says that the symbols of the slots so far are written down, each
--- for a node above for which nothing was written. Assumes nothing.
+-- for a node above for which nothing was written; a slot that names no such node refuses. Assumes nothing.
 use Prim.Native.Nat.{_-_}
-use borrow.Author.Tests.{not-false}
-use Rattle.checking.proofs.OneWalkLaws.{WrittenTo, write-start, write-on, write-place, write-there, write-fits, write-turn, write-end, never}
+use borrow.Author.Tests.{not-true, not-false}
+use Rattle.checking.proofs.OneWalkLaws.{WrittenTo, write-start, write-on, write-place, write-there, write-fits, write-turn, write-end, write-refused, none-refused, never}
 use borrow.Author.Needs.{needs}
 use Rattle.checking.proofs.one_walk.write_children.Statement.{statement}
 use Rattle.checking.proofs.one_walk.write_children.Tie as tie
@@ -35,7 +35,7 @@ same-length : tie.Need-same-length Inv-loop μ-loop
 same-length c = search needs
 
 returns : tie.Need-returns Inv-loop μ-loop
-returns c = search never
+returns c = (search never, search (write-refused, not-true))
 
 child-symbol-requires : tie.Need-child-symbol-requires Inv-loop μ-loop
 child-symbol-requires c κs = (search write-there, search write-fits)
@@ -56,7 +56,7 @@ same-length-2 : tie.Need-same-length-2 Inv-loop μ-loop
 same-length-2 c = search needs
 
 returns-2 : tie.Need-returns-2 Inv-loop μ-loop
-returns-2 c = search write-end
+returns-2 c = (search write-end, search none-refused)
 
 pub write-children-spec : {M : Type 1} → statement M
 write-children-spec =
