@@ -23,7 +23,7 @@ use Rattle.grammar.proofs.AcceptedTable.{accepted}
 use Rattle.grammar.proofs.VerdictLaws.{unless-passes, unless-good, each-at, each-good}
 use Rattle.trees.specs.Tree.{mostNodes, nodes, ruleOf, child, usedSlots, symbolAtNode}
 use Rattle.trees.specs.Checking.{nodeFault, rootIsStart, childrenFit, namesNode, onceChild}
-use Rattle.checking.specs.Walk.{Ready, slotNames, noSymbol, Refuses, NodeRead, Unread, unsure, orphanAfter, Nobody, Somebody, Walked, Apart, OneWalk}
+use Rattle.checking.specs.Walk.{Ready, slotNames, noSymbol, wrong, Refuses, NodeRead, Unread, unsure, orphanAfter, Nobody, Somebody, Walked, Apart, OneWalk}
 use Rattle.checking.proofs.OneWalkLaws.{small-symbol, node-known, node-slots, slot-both, new-not, used-names}
 use Rattle.checking.proofs.WholeCheckLaws.{used-seven}
 use Rattle.checking.proofs.NameLaws.{count-on, node-names}
@@ -35,22 +35,29 @@ unfolding orphanAfter
 orphan-same orphan end n symbol written e = sym (chosen (eqb written symbol) _ _ (eq-T written symbol e))
 
 module _ (orphan end n symbol written : ℕ) (d : written ≡ symbol → ⊥) where
-  differs : orphanAfter orphan end n symbol written ≡ cond (eqb written noSymbol) (cond (ltb orphan end) orphan n) unsure
+  differs : orphanAfter orphan end n symbol written ≡ cond (eqb symbol wrong) unsure (cond (eqb written noSymbol) (cond (ltb orphan end) orphan n) unsure)
   unfolding orphanAfter
   differs = passed-over (eqb written symbol) _ _ (false-T _ (ne-eqb written symbol d))
 
-  pub orphan-unsure : (written ≡ noSymbol → ⊥) → unsure ≡ orphanAfter orphan end n symbol written
-  orphan-unsure h = sym (differs ∙ passed-over (eqb written noSymbol) _ _ (false-T _ (ne-eqb written noSymbol h)))
+  pub orphan-wrong : symbol ≡ wrong → unsure ≡ orphanAfter orphan end n symbol written
+  orphan-wrong h = sym (differs ∙ chosen (eqb symbol wrong) _ _ (eq-T symbol wrong h))
 
-  module _ (e : written ≡ noSymbol) where
-    alone : orphanAfter orphan end n symbol written ≡ cond (ltb orphan end) orphan n
-    alone = differs ∙ chosen (eqb written noSymbol) _ _ (eq-T written noSymbol e)
+  module _ (c : symbol ≡ wrong → ⊥) where
+    known : orphanAfter orphan end n symbol written ≡ cond (eqb written noSymbol) (cond (ltb orphan end) orphan n) unsure
+    known = differs ∙ passed-over (eqb symbol wrong) _ _ (false-T _ (ne-eqb symbol wrong c))
 
-    pub orphan-before : orphan < end → orphan ≡ orphanAfter orphan end n symbol written
-    orphan-before h = sym (alone ∙ chosen (ltb orphan end) _ _ (lt→ltb orphan end h))
+    pub orphan-unsure : (written ≡ noSymbol → ⊥) → unsure ≡ orphanAfter orphan end n symbol written
+    orphan-unsure h = sym (known ∙ passed-over (eqb written noSymbol) _ _ (false-T _ (ne-eqb written noSymbol h)))
 
-    pub orphan-here : end ≤ orphan → n ≡ orphanAfter orphan end n symbol written
-    orphan-here h = sym (alone ∙ passed-over (ltb orphan end) _ _ (false-T _ (le-ltb orphan end h)))
+    module _ (e : written ≡ noSymbol) where
+      alone : orphanAfter orphan end n symbol written ≡ cond (ltb orphan end) orphan n
+      alone = known ∙ chosen (eqb written noSymbol) _ _ (eq-T written noSymbol e)
+
+      pub orphan-before : orphan < end → orphan ≡ orphanAfter orphan end n symbol written
+      orphan-before h = sym (alone ∙ chosen (ltb orphan end) _ _ (lt→ltb orphan end h))
+
+      pub orphan-here : end ≤ orphan → n ≡ orphanAfter orphan end n symbol written
+      orphan-here h = sym (alone ∙ passed-over (ltb orphan end) _ _ (false-T _ (le-ltb orphan end h)))
 
 pub start-fits : (g offsets : List ℕ) (x : ℕ) → Ready g offsets → x ≡ start g → x < 256
 start-fits g offsets x w e = omega (arith, small-symbol g (start g) (w .good) (accepted g (w .good) .startFits))
@@ -124,15 +131,18 @@ module _ (g t wanted : List ℕ) (n orphan end : ℕ) (w : Walked g t wanted n o
       later : written ≡ noSymbol → orphan < end → o ≡ orphan → Found
       first : written ≡ noSymbol → end ≤ orphan → o ≡ n → Found
 
+    right : symbol ≡ wrong → ⊥
+    right q = omega (arith, v .fits .small)
+
     found : Found
     found =
         ⊎-elim (λ q. fits q (f ∙ sym (orphan-same orphan end n symbol written q)))
         (λ d.
         ⊎-elim
         (λ z.
-        ⊎-elim (λ b. later z b (f ∙ sym (orphan-before orphan end n symbol written d z b)))
-        (λ b. first z b (f ∙ sym (orphan-here orphan end n symbol written d z b))) (below-or-not orphan end))
-        (λ z. absurd (omega (arith, l, f ∙ sym (orphan-unsure orphan end n symbol written d z), w .few))) (same-or-not written noSymbol))
+        ⊎-elim (λ b. later z b (f ∙ sym (orphan-before orphan end n symbol written d right z b)))
+        (λ b. first z b (f ∙ sym (orphan-here orphan end n symbol written d right z b))) (below-or-not orphan end))
+        (λ z. absurd (omega (arith, l, f ∙ sym (orphan-unsure orphan end n symbol written d right z), w .few))) (same-or-not written noSymbol))
         (same-or-not written symbol)
 
     kept : (k : ℕ) → k < n → word next k ≡ word wanted k
@@ -223,10 +233,13 @@ module _ (g t wanted : List ℕ) (n orphan end : ℕ) (w : Walked g t wanted n o
           orphanIs = orphan-is found;
         }
 
-  pub walk-past : (next : List ℕ) (symbol x y o : ℕ) → n < end → (symbol ≡ noSymbol → ⊥)
-      → ((symbol ≡ noSymbol → ⊥) → NodeRead wanted next g t n symbol) → x ≡ getD next n 0 → y ≡ x → o ≡ orphanAfter orphan end n symbol y → o ≤ end
-      → Walked g t next (n + 1) o end
-  walk-past next symbol x y o h d v e k f l = walk-turn next symbol y o h (v d) (k ∙ e) f l
+  -- an answer that is a number of nodes is not that of a wrong node
+  sound : (symbol y o : ℕ) → y < 256 → o ≡ orphanAfter orphan end n symbol y → o ≤ end → symbol ≡ wrong → ⊥
+  sound symbol y o b f l q = omega (arith, f ∙ sym (orphan-wrong orphan end n symbol y (λ i. omega arith) q), w .few)
+
+  pub walk-past : (next : List ℕ) (symbol x y o : ℕ) → n < end → ((symbol ≡ wrong → ⊥) → NodeRead wanted next g t n symbol) → x ≡ getD next n 0 → y ≡ x
+      → y < 256 → o ≡ orphanAfter orphan end n symbol y → o ≤ end → Walked g t next (n + 1) o end
+  walk-past next symbol x y o h v e k b f l = walk-turn next symbol y o h (v (sound symbol y o b f l)) (k ∙ e) f l
 
   -- ---- where the walk is not sure, the tree is not one that it can answer for
   module _ (h : n < end) (a : Apart g t) where
@@ -284,27 +297,25 @@ module _ (g t wanted : List ℕ) (n orphan end : ℕ) (w : Walked g t wanted n o
         ⊎-elim (λ x. absurd (d (x .free))) (λ x. by-parent (x .once)) (w .names n (omega arith) (omega (arith, w .few))))
         (same-or-not n 0)
 
-  pub past-unread : (symbol : ℕ) → n < end → symbol ≡ noSymbol → (symbol ≡ noSymbol → Unread wanted g t n) → end < unsure → Apart g t → ⊥
-  past-unread symbol h e u l a = not-unread h a (u e)
-
-  pub past-differs : (next : List ℕ) (symbol x y o : ℕ) → n < end → (symbol ≡ noSymbol → ⊥)
-      → ((symbol ≡ noSymbol → ⊥) → NodeRead wanted next g t n symbol) → x ≡ getD next n 0 → y ≡ x → o ≡ orphanAfter orphan end n symbol y → end < o
-      → Apart g t → ⊥
-  past-differs next symbol x y o h d v e k f l a =
-      let own : y ≡ word wanted n = k ∙ (e ∙ v d .written .under n (omega arith)) in
+  past-right : (next : List ℕ) (symbol y o : ℕ) → n < end → NodeRead wanted next g t n symbol → (symbol ≡ wrong → ⊥) → y ≡ getD next n 0
+      → o ≡ orphanAfter orphan end n symbol y → end < o → Apart g t → ⊥
+  past-right next symbol y o h v c e f l a =
+      let own : y ≡ word wanted n = e ∙ v .written .under n (omega arith) in
       ⊎-elim (λ q. omega (arith, f ∙ sym (orphan-same orphan end n symbol y q), w .inside))
       (λ q.
       ⊎-elim
       (λ z.
-      ⊎-elim (λ b. omega (arith, f ∙ sym (orphan-before orphan end n symbol y q z b)))
-      (λ b. omega (arith, f ∙ sym (orphan-here orphan end n symbol y q z b))) (below-or-not orphan end))
-      (λ z. q (own ∙ (well-written h a (λ i. z (own ∙ i)) ∙ sym (v d .fits .symbolIs)))) (same-or-not y noSymbol)) (same-or-not y symbol)
+      ⊎-elim (λ b. omega (arith, f ∙ sym (orphan-before orphan end n symbol y q c z b)))
+      (λ b. omega (arith, f ∙ sym (orphan-here orphan end n symbol y q c z b))) (below-or-not orphan end))
+      (λ z. q (own ∙ (well-written h a (λ i. z (own ∙ i)) ∙ sym (v .fits .symbolIs)))) (same-or-not y noSymbol)) (same-or-not y symbol)
+
+  pub past-differs : (next : List ℕ) (symbol x y o : ℕ) → n < end → ((symbol ≡ wrong → ⊥) → NodeRead wanted next g t n symbol)
+      → (symbol ≡ wrong → Unread wanted g t n) → x ≡ getD next n 0 → y ≡ x → o ≡ orphanAfter orphan end n symbol y → end < o → Apart g t → ⊥
+  past-differs next symbol x y o h v u e k f l a =
+      ⊎-elim (λ q. not-unread h a (u q)) (λ c. past-right next symbol y o h (v c) c (k ∙ e) f l a) (same-or-not symbol wrong)
 
   pub walk-within : end < orphan → Apart g t → ⊥
   walk-within h a = omega (arith, w .inside)
-
-  pub walk-unsure : (next : List ℕ) → unsure ≤ end → Walked g t next (n + 1) unsure end
-  walk-unsure next h = absurd (omega (arith, w .few))
 
 -- ---- its end
 

@@ -23,7 +23,7 @@ use Rattle.grammar.proofs.AcceptedTable.{accepted}
 use Rattle.grammar.proofs.VerdictLaws.{then-first, then-second, then-good, unless-passes, unless-good}
 use Rattle.trees.specs.Tree.{terminalMark, nodes, ruleOf, appliesRule, child, usedSlots, symbolAtNode}
 use Rattle.trees.specs.Checking.{knownWord, slotFits, slotsFit, nodeFault}
-use Rattle.checking.specs.Walk.{Ready, slotNames, unusedWord, unusedEmpty, noSymbol, OnNode, isNew, Writing, Kept, Fresh, Written, Refuses, AtRule, AtTerminal, NodeFits, NodeRead, Unread}
+use Rattle.checking.specs.Walk.{Ready, slotNames, unusedWord, unusedEmpty, noSymbol, wrong, OnNode, isNew, Writing, Kept, Fresh, Written, Refuses, AtRule, AtTerminal, NodeFits, NodeRead, Unread}
 use Rattle.checking.proofs.NodeTestLaws.{starts-there, rule-room, few-rules, known-rule, known-terminal, known-nothing, used-none, symbol-terminal}
 use Rattle.checking.proofs.NameLaws.{slot-count}
 
@@ -416,7 +416,7 @@ module _ (before g t : List ℕ) (n p : ℕ) (w : AtRule before g t n p) where
         (subst⁻¹ (λ (x : ℕ). x < symbols g) left-is (accepted g (w .good) .rule (ruleOf t n) (w .below) .symbolsFit 0 (omega arith)))
 
     pub rule-read : (after : List ℕ) (symbol : ℕ) (u v : Bool) → u ≡ unusedEmpty t n used → u ≡ true → (v ≡ true → Written before after g t n p used)
-        → v ≡ true → symbol ≡ getD g p 0 → (symbol ≡ noSymbol → ⊥) → NodeRead before after g t n symbol
+        → v ≡ true → symbol ≡ getD g p 0 → (symbol ≡ wrong → ⊥) → NodeRead before after g t n symbol
     rule-read after symbol u v h i j k q d =
         let z : Written before after g t n p used = j k in
         record {
@@ -430,20 +430,20 @@ module _ (before g t : List ℕ) (n p : ℕ) (w : AtRule before g t n p) where
               subst (λ (x : ℕ). Written before after g t n x (usedSlots g t n)) (w .rule) (subst (λ (x : ℕ). Written before after g t n p x) used-is z);
         }
 
-    pub rule-filled : (u : Bool) → u ≡ unusedEmpty t n used → u ≡ false → noSymbol ≡ noSymbol → Unread before g t n
+    pub rule-filled : (u : Bool) → u ≡ unusedEmpty t n used → u ≡ false → wrong ≡ wrong → Unread before g t n
     rule-filled u h i y = inl (not-empty g t n used u used-is h i)
 
-    pub rule-refused : (v : Bool) → (v ≡ false → Refuses before t n used) → v ≡ false → noSymbol ≡ noSymbol → Unread before g t n
+    pub rule-refused : (v : Bool) → (v ≡ false → Refuses before t n used) → v ≡ false → wrong ≡ wrong → Unread before g t n
     rule-refused v h i y = inr (subst (λ (x : ℕ). Refuses before t n x) used-is (h i))
 
-    pub rule-always : (symbol : ℕ) → symbol ≡ getD g p 0 → symbol ≡ noSymbol → Unread before g t n
+    pub rule-always : (symbol : ℕ) → symbol ≡ getD g p 0 → symbol ≡ wrong → Unread before g t n
     rule-always symbol q y = absurd (omega (arith, left-small))
 
 -- where there is no symbol, nothing is claimed
-pub none-read : (before after g t : List ℕ) (n : ℕ) → (noSymbol ≡ noSymbol → ⊥) → NodeRead before after g t n noSymbol
+pub none-read : (before after g t : List ℕ) (n : ℕ) → (wrong ≡ wrong → ⊥) → NodeRead before after g t n wrong
 none-read before after g t n d = absurd (d refl)
 
-pub none-fits : (g t : List ℕ) (n : ℕ) → (noSymbol ≡ noSymbol → ⊥) → NodeFits g t n noSymbol
+pub none-fits : (g t : List ℕ) (n : ℕ) → (wrong ≡ wrong → ⊥) → NodeFits g t n wrong
 none-fits g t n d = absurd (d refl)
 
 pub few-below : (g offsets : List ℕ) (r m : ℕ) → Ready g offsets → m ≡ rules g → r < m → r < mostRules
@@ -472,7 +472,7 @@ at-terminal wanted g offsets t n r w on e h =
     }
 
 pub terminal-fits : (g t : List ℕ) (n x s : ℕ) (u v : Bool) → AtTerminal g t n x → s ≡ symbols g → x < s → u ≡ nonterminal g x → u ≡ false
-    → v ≡ unusedEmpty t n 0 → v ≡ true → (x ≡ noSymbol → ⊥) → NodeFits g t n x
+    → v ≡ unusedEmpty t n 0 → v ≡ true → (x ≡ wrong → ⊥) → NodeFits g t n x
 terminal-fits g t n x s u v w e h f i j k d =
     let l : ruleOf t n - terminalMark < symbols g = omega (arith, w .terminal) in
     let z : 0 ≡ usedSlots g t n = used-none g t n (ruleOf t n) refl (w .mark) in
@@ -486,31 +486,31 @@ terminal-fits g t n x s u v w e h f i j k d =
     }
 
 module _ (g t : List ℕ) (n x s : ℕ) (w : AtTerminal g t n x) (e : s ≡ symbols g) where
-  pub terminal-past : s ≤ x → noSymbol ≡ noSymbol → nodeFault g t n ≡ Good → ⊥
+  pub terminal-past : s ≤ x → wrong ≡ wrong → nodeFault g t n ≡ Good → ⊥
   terminal-past h y =
       not-known g t n (known-nothing g t n (ruleOf t n) (symbols g) refl (w .mark) refl (omega (arith, w .terminal)))
 
   module _ (u : Bool) (h : x < s) (f : u ≡ nonterminal g x) where
-    pub terminal-not : u ≡ true → noSymbol ≡ noSymbol → nodeFault g t n ≡ Good → ⊥
+    pub terminal-not : u ≡ true → wrong ≡ wrong → nodeFault g t n ≡ Good → ⊥
     terminal-not i y =
         not-known g t n
         (sym (ap not i)
         ∙ known-terminal g t n (ruleOf t n) (symbols g) u refl (w .mark) refl (omega (arith, w .terminal)) (f ∙ ap (nonterminal g) (w .terminal)))
 
-  pub terminal-filled : (v : Bool) → v ≡ unusedEmpty t n 0 → v ≡ false → noSymbol ≡ noSymbol → nodeFault g t n ≡ Good → ⊥
+  pub terminal-filled : (v : Bool) → v ≡ unusedEmpty t n 0 → v ≡ false → wrong ≡ wrong → nodeFault g t n ≡ Good → ⊥
   terminal-filled v f i y = not-empty g t n 0 v (used-none g t n (ruleOf t n) refl (w .mark)) f i
 
-  pub terminal-always : x < s → x ≡ noSymbol → nodeFault g t n ≡ Good → ⊥
+  pub terminal-always : x < s → x ≡ wrong → nodeFault g t n ≡ Good → ⊥
   terminal-always h y z = omega (arith, small-symbol g x (w .good) (omega arith))
 
-pub unread-terminal : (before g t : List ℕ) (n s : ℕ) → (s ≡ noSymbol → nodeFault g t n ≡ Good → ⊥) → s ≡ noSymbol → Unread before g t n
+pub unread-terminal : (before g t : List ℕ) (n s : ℕ) → (s ≡ wrong → nodeFault g t n ≡ Good → ⊥) → s ≡ wrong → Unread before g t n
 unread-terminal before g t n s h e = inl (h e)
 
-pub unread-rule : (before g t : List ℕ) (n r m : ℕ) → r ≡ ruleOf t n → r < terminalMark → m ≡ rules g → m ≤ r → noSymbol ≡ noSymbol → Unread before g t n
+pub unread-rule : (before g t : List ℕ) (n r m : ℕ) → r ≡ ruleOf t n → r < terminalMark → m ≡ rules g → m ≤ r → wrong ≡ wrong → Unread before g t n
 unread-rule before g t n r m e h f l y = inl (not-known g t n (sym (le-ltb r m l) ∙ known-rule g t n r m e h f))
 
-pub terminal-read : (before g t : List ℕ) (n r s : ℕ) → r ≡ getD t (8 * n) 0 → terminalMark ≤ r → ((s ≡ noSymbol → ⊥) → NodeFits g t n s)
-    → (s ≡ noSymbol → ⊥) → NodeRead before before g t n s
+pub terminal-read : (before g t : List ℕ) (n r s : ℕ) → r ≡ getD t (8 * n) 0 → terminalMark ≤ r → ((s ≡ wrong → ⊥) → NodeFits g t n s)
+    → (s ≡ wrong → ⊥) → NodeRead before before g t n s
 terminal-read before g t n r s e h f d =
     let z : 0 ≡ usedSlots g t n = used-none g t n r e h in
     record {

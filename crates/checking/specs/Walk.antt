@@ -113,6 +113,10 @@ unusedEmpty t n used = all 7 (λ i. eqb (unusedWord t n (suc i) used) 0)
 abbrev pub noSymbol : ℕ
 noSymbol = 255
 
+-- stands for the symbol of a node that is wrong, and is more than can be written down
+abbrev pub wrong : ℕ
+wrong = 256
+
 -- node n of a tree, with a symbol or none written down for each node
 pub record OnNode (wanted t : List ℕ) (n : ℕ) : Type 0 where
   pub node : n < mostNodes
@@ -197,7 +201,7 @@ unsure = 1025
 -- the first node without a parent, with node n of this symbol, where `orphan` was found before it and this symbol is written down for it
 unfoldable pub orphanAfter : ℕ → ℕ → ℕ → ℕ → ℕ → ℕ
 orphanAfter orphan end n symbol written =
-    cond (eqb written symbol) orphan (cond (eqb written noSymbol) (cond (ltb orphan end) orphan n) unsure)
+    cond (eqb written symbol) orphan (cond (eqb symbol wrong) unsure (cond (eqb written noSymbol) (cond (ltb orphan end) orphan n) unsure))
 
 -- what the first n nodes have named: nobody node m, or one slot
 pub record Nobody (g t wanted : List ℕ) (n m : ℕ) : Type 0 where

@@ -17,8 +17,11 @@ ghost use Rattle.trees.specs.Tree as tree;
 ghost use Rattle.trees.specs.Checking as check;
 ghost use Rattle.checking.specs.Walk as walk;
 
-// Stands for a symbol where there is none, and where a node is wrong.
+// Stands for a symbol where nothing is written down.
 const NO_SYMBOL: usize = 255;
+
+// Stands for the symbol of a node that is wrong: more than can be written down, so one test of a node's symbol finds both.
+const WRONG: usize = 256;
 
 // More than any number of nodes: the answer of a walk that is not sure.
 const UNSURE: usize = 1025;
@@ -103,15 +106,15 @@ fn write_children(
 // The symbol of node n, which applies the rule at word p.
 fn rule_symbol(wanted: &mut [u8], words: &[u16], t: &[u16], n: usize, p: usize) -> usize
     requires { ⌜ walk.AtRule (now wanted) (now words) (now t) n p ⌝ }
-    ensures { λ r. ⌜ ((r ≡ walk.noSymbol → ⊥) → walk.NodeRead (now (wanted .entry)) (now (wanted .exit)) (now (words .entry)) (now (t .entry)) n r) ⌝ }
-    ensures { λ r. ⌜ (r ≡ walk.noSymbol → walk.Unread (now (wanted .entry)) (now (words .entry)) (now (t .entry)) n) ⌝ }
+    ensures { λ r. ⌜ ((r ≡ walk.wrong → ⊥) → walk.NodeRead (now (wanted .entry)) (now (wanted .exit)) (now (words .entry)) (now (t .entry)) n r) ⌝ }
+    ensures { λ r. ⌜ (r ≡ walk.wrong → walk.Unread (now (wanted .entry)) (now (words .entry)) (now (t .entry)) n) ⌝ }
 {
     let used = right_length(words, p);
     if !unused_empty(t, n, used) {
-        return NO_SYMBOL;
+        return WRONG;
     }
     if !write_children(wanted, words, t, n, p, used) {
-        return NO_SYMBOL;
+        return WRONG;
     }
     known(words, p)
 }
@@ -119,17 +122,17 @@ fn rule_symbol(wanted: &mut [u8], words: &[u16], t: &[u16], n: usize, p: usize) 
 // The symbol of node n, which is terminal x if there is one.
 fn terminal_symbol(words: &[u16], t: &[u16], n: usize, x: usize) -> usize
     requires { ⌜ walk.AtTerminal (now words) (now t) n x ⌝ }
-    ensures { λ r. ⌜ ((r ≡ walk.noSymbol → ⊥) → walk.NodeFits (now (words .entry)) (now (t .entry)) n r) ⌝ }
-    ensures { λ r. ⌜ (r ≡ walk.noSymbol → check.nodeFault (now (words .entry)) (now (t .entry)) n ≡ Good → ⊥) ⌝ }
+    ensures { λ r. ⌜ ((r ≡ walk.wrong → ⊥) → walk.NodeFits (now (words .entry)) (now (t .entry)) n r) ⌝ }
+    ensures { λ r. ⌜ (r ≡ walk.wrong → check.nodeFault (now (words .entry)) (now (t .entry)) n ≡ Good → ⊥) ⌝ }
 {
     if x >= access::symbols(words) {
-        return NO_SYMBOL;
+        return WRONG;
     }
     if nonterminal(words, x) {
-        return NO_SYMBOL;
+        return WRONG;
     }
     if !unused_empty(t, n, 0) {
-        return NO_SYMBOL;
+        return WRONG;
     }
     x
 }
@@ -146,21 +149,21 @@ fn applied_symbol(
     requires { ⌜ walk.Ready (now words) (now offsets) ⌝ }
     requires { ⌜ walk.OnNode (now wanted) (now t) n ⌝ }
     requires { ⌜ (r ≡ tree.ruleOf (now t) n) × (r < tree.terminalMark) ⌝ }
-    ensures { λ v. ⌜ ((v ≡ walk.noSymbol → ⊥) → walk.NodeRead (now (wanted .entry)) (now (wanted .exit)) (now (words .entry)) (now (t .entry)) n v) ⌝ }
-    ensures { λ v. ⌜ (v ≡ walk.noSymbol → walk.Unread (now (wanted .entry)) (now (words .entry)) (now (t .entry)) n) ⌝ }
+    ensures { λ v. ⌜ ((v ≡ walk.wrong → ⊥) → walk.NodeRead (now (wanted .entry)) (now (wanted .exit)) (now (words .entry)) (now (t .entry)) n v) ⌝ }
+    ensures { λ v. ⌜ (v ≡ walk.wrong → walk.Unread (now (wanted .entry)) (now (words .entry)) (now (t .entry)) n) ⌝ }
 {
     if r < access::rules(words) {
         return rule_symbol(wanted, words, t, n, access::rule_at(offsets, r));
     }
-    NO_SYMBOL
+    WRONG
 }
 
-// The symbol of node n, with those of its children written down; none where 13 or 14 refuses it, or where it names a node that was named before.
+// The symbol of node n, with those of its children written down; WRONG where 13 or 14 refuses it, or where it names a node that was named before.
 fn node_symbol(wanted: &mut [u8], words: &[u16], offsets: &Offsets, t: &[u16], n: usize) -> usize
     requires { ⌜ walk.Ready (now words) (now offsets) ⌝ }
     requires { ⌜ walk.OnNode (now wanted) (now t) n ⌝ }
-    ensures { λ r. ⌜ ((r ≡ walk.noSymbol → ⊥) → walk.NodeRead (now (wanted .entry)) (now (wanted .exit)) (now (words .entry)) (now (t .entry)) n r) ⌝ }
-    ensures { λ r. ⌜ (r ≡ walk.noSymbol → walk.Unread (now (wanted .entry)) (now (words .entry)) (now (t .entry)) n) ⌝ }
+    ensures { λ r. ⌜ ((r ≡ walk.wrong → ⊥) → walk.NodeRead (now (wanted .entry)) (now (wanted .exit)) (now (words .entry)) (now (t .entry)) n r) ⌝ }
+    ensures { λ r. ⌜ (r ≡ walk.wrong → walk.Unread (now (wanted .entry)) (now (words .entry)) (now (t .entry)) n) ⌝ }
 {
     let r = known(t, 8 * n);
     if r < TERMINAL_MARK {
@@ -176,6 +179,9 @@ fn orphan_after(orphan: usize, nodes: usize, n: usize, symbol: usize, written: u
     if written == symbol {
         return orphan;
     }
+    if symbol == WRONG {
+        return UNSURE;
+    }
     if written != NO_SYMBOL {
         return UNSURE;
     }
@@ -188,6 +194,7 @@ fn orphan_after(orphan: usize, nodes: usize, n: usize, symbol: usize, written: u
 // A symbol that is written down, as an index.
 fn wide(x: u8) -> usize
     ensures { λ r. ⌜ r ≡ x ⌝ }
+    ensures { λ r. ⌜ r < 256 ⌝ }
 {
     x as usize
 }
@@ -209,13 +216,10 @@ fn past_node(
     ensures { λ r. ⌜ (nodes < r → walk.Apart (now (words .entry)) (now (t .entry)) → ⊥) ⌝ }
 {
     let symbol = node_symbol(wanted, words, offsets, t, n);
-    if symbol == NO_SYMBOL {
-        return UNSURE;
-    }
     orphan_after(orphan, nodes, n, symbol, wide(wanted[n]))
 }
 
-// The first node without a parent, or the number of nodes where each has one.
+// The first node without a parent, or the number of nodes where each has one; UNSURE of a tree with another fault in 13 to 17.
 pub fn first_orphan(words: &[u16], offsets: &Offsets, t: &[u16], nodes: usize) -> usize
     requires { ⌜ walk.Ready (now words) (now offsets) ⌝ }
     requires { ⌜ (nodes ≡ tree.nodes (now t)) × ((1 ≤ nodes) × (nodes ≤ tree.mostNodes)) ⌝ }
