@@ -64,9 +64,10 @@ fn pass_first(rows: &mut [u64], base: usize, count: usize, m: usize)
     requires { ⌜ (base + 64 ≤ length (now rows)) × ((count ≤ 64) × (m < 64)) ⌝ }
     ensures { λ _. ⌜ closure.Anew (now (rows .entry)) base (closure.rowBy m (word (now (rows .entry)) (base + m))) count (now (rows .exit)) ⌝ }
 {
-    let onward = rows[base + m];
+    let further = rows[base + m];
     for o in 0..count {
-        rows[base + o] = by(rows[base + o], m, onward);
+        let row = rows[base + o];
+        rows[base + o] = by(row, m, further);
     }
 }
 

@@ -7,31 +7,31 @@ use Rattle.closing.proofs.pass_first.Statement.{statement}
 use Rattle.closing.proofs.pass_first.Tie as tie
 
 abbrev Inv-loop : tie.InvT-loop
-Inv-loop rows₀ base count m onward o₀ rows o = (o ≤ count) × Anew rows₀ base (rowBy m onward) o rows
+Inv-loop rows₀ base count m further o₀ rows o = (o ≤ count) × Anew rows₀ base (rowBy m further) o rows
 
 abbrev μ-loop : tie.MeasureT-loop
-μ-loop rows₀ base count m onward o₀ rows o = count - o
+μ-loop rows₀ base count m further o₀ rows o = count - o
 
-add-onward : tie.Need-add-onward Inv-loop μ-loop
-add-onward c = search needs
+add-further : tie.Need-add-further Inv-loop μ-loop
+add-further c = search needs
 
-mul-onward : tie.Need-mul-onward Inv-loop μ-loop
-mul-onward c = search needs
+mul-further : tie.Need-mul-further Inv-loop μ-loop
+mul-further c = search needs
 
-slice-read-onward : tie.Need-slice-read-onward Inv-loop μ-loop
-slice-read-onward c = search needs
+slice-read-further : tie.Need-slice-read-further Inv-loop μ-loop
+slice-read-further c = search needs
 
 loop-holds : tie.Need-loop-holds Inv-loop μ-loop
 loop-holds c = (search needs, search anew-start)
 
-add-by : tie.Need-add-by Inv-loop μ-loop
-add-by c = search needs
+add-row : tie.Need-add-row Inv-loop μ-loop
+add-row c = search needs
 
-mul-by : tie.Need-mul-by Inv-loop μ-loop
-mul-by c = search needs
+mul-row : tie.Need-mul-row Inv-loop μ-loop
+mul-row c = search needs
 
-slice-read-by : tie.Need-slice-read-by Inv-loop μ-loop
-slice-read-by c = search needs
+slice-read-row : tie.Need-slice-read-row Inv-loop μ-loop
+slice-read-row c = search needs
 
 by-requires : tie.Need-by-requires Inv-loop μ-loop
 by-requires c κs = search needs
@@ -66,13 +66,13 @@ pass-first-spec =
     (tie.spec
     Inv-loop
     μ-loop
-    add-onward
-    mul-onward
-    slice-read-onward
+    add-further
+    mul-further
+    slice-read-further
     loop-holds
-    add-by
-    mul-by
-    slice-read-by
+    add-row
+    mul-row
+    slice-read-row
     by-requires
     add-rows
     mul-rows
