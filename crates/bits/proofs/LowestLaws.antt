@@ -7,7 +7,8 @@ use mathlib.Core.Path.{_≡_, refl, sym, ap, _∙_, subst, subst⁻¹}
 use mathlib.Core.Logic.{_⊎_, inl, inr}
 use lib.Count.{trailingZeros, leadingZeros, leading-le, leading-length, under}
 use lib.Pow.{pow-pos}
-use Rattle.bits.specs.Bit.{bit, lowest, First, End}
+use Rattle.bits.specs.Bit.{bit, lowest, First}
+use Rattle.bits.specs.End.{End}
 use Rattle.bits.proofs.BitLaws.{bit-zero, bit-suc, bit-cases, bit-of-zero, bit-ext}
 
 -- l is the lowest member of s below w, or w where there is none

@@ -1,6 +1,6 @@
 -- Sets of small numbers, kept as the bits of one number: i is a member of s where bit i of s is 1.
 -- A width w says how many bits are looked at. Assumes nothing.
-use Prim.Native.Nat.{ℕ, zero, suc, _+_, _-_, _*_, _/_, _%_, _^_, _≤_, _<_}
+use Prim.Native.Nat.{ℕ, zero, suc, _+_, _-_, _*_, _/_, _%_, _^_, _<_}
 use mathlib.Core.Path.{_≡_}
 use mathlib.Core.Bool.{Bool, true, false}
 use lib.Dec.{eqb}
@@ -75,9 +75,3 @@ pub record First (s l : ℕ) : Type 0 where
   pub is : l ≡ lowest 64 s
   pub small : l < 64
   pub member : bit l s ≡ 1
-
--- n is the least number above all members of s, a set of numbers below 64
-pub record End (s n : ℕ) : Type 0 where
-  pub small : n ≤ 64
-  pub above : s < 2 ^ n
-  pub least : 2 ^ n ≤ 2 * s + 1

@@ -4,6 +4,7 @@ ghost use mathlib.Core.Path.{_≡_};
 ghost use mathlib.Core.Bool.{cond};
 ghost use Prim.Native.Nat.{_≤_, _<_};
 ghost use Rattle.bits.specs.Bit as sets;
+ghost use Rattle.bits.specs.End.{End};
 
 // Whether i is a member.
 pub fn has(set: u64, i: usize) -> bool
@@ -120,7 +121,7 @@ pub fn count(set: u64) -> usize
 
 // The least number above all members.
 pub fn end(set: u64) -> usize
-    ensures { λ r. ⌜ sets.End set r ⌝ }
+    ensures { λ r. ⌜ End set r ⌝ }
 {
     64 - place(u64::leading_zeros(set))
 }

@@ -8,7 +8,8 @@ use mathlib.Core.List.{List}
 use native.Mathlib.Omega.{arith}
 use lib.Dec.{T, T-not, not-T}
 use lib.ListN.{length}
-use Rattle.bits.specs.Bit.{hasb, remove, common, minus, raised, lowest, First, End}
+use Rattle.bits.specs.Bit.{hasb, remove, common, minus, raised, lowest, First}
+use Rattle.bits.specs.End.{End}
 use Rattle.bits.proofs.BitLaws.{bit-has, bit-lacks, bit-below, bit-single-same, bit-single-other}
 use Rattle.bits.proofs.ShiftLaws.{has-raised, raised-low}
 use Rattle.bits.proofs.RestLaws.{rest-of}

@@ -8,7 +8,8 @@ use native.Mathlib.Omega.{arith}
 use lib.Dec.{T, T-not}
 use lib.ListN.{length, set, length-set}
 use lib.Seq.{getD-set-same, getD-set-other}
-use Rattle.bits.specs.Bit.{hasb, union, remove, lowest, First, End}
+use Rattle.bits.specs.Bit.{hasb, union, remove, lowest, First}
+use Rattle.bits.specs.End.{End}
 use Rattle.bits.proofs.BitLaws.{bit-has}
 use Rattle.bits.proofs.RestLaws.{rest-of}
 use Rattle.bits.proofs.MemberLaws.{hasb-below, union-cases, union-left, union-right, none-left, no-member}

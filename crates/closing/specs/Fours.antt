@@ -1,6 +1,6 @@
 -- Four middles at a time: those from a number k on. What a row gets by way of them is the union of the rows of those that it leads to.
 -- For proofs of the code: no demand rests on it. Assumes nothing.
-use Prim.Native.Nat.{ℕ, _+_, _*_, _/_, _%_, _^_, _≤_, _<_}
+use Prim.Native.Nat.{ℕ, _+_, _/_, _%_, _^_, _≤_, _<_}
 use mathlib.Core.Path.{_≡_}
 use mathlib.Core.Logic.{_⊎_}
 use mathlib.Core.Bool.{cond}

@@ -1,6 +1,6 @@
 // Four middles at a time. What a row gets by way of them depends only on which of the four it leads to: it is one of 16 unions of their rows.
 ghost use mathlib.Core.Path.{_≡_};
-ghost use Prim.Native.Nat.{_+_, _*_, _/_, _%_, _^_, _≤_, _<_};
+ghost use Prim.Native.Nat.{_+_, _*_, _/_, _≤_, _<_};
 ghost use lib.ListN.{length};
 ghost use Rattle.bits.specs.Bit as sets;
 ghost use Rattle.closing.specs.Closure as closure;

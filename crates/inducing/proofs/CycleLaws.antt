@@ -157,7 +157,3 @@ module _ (g : List ℕ) (paths : ℕ → ℕ → ℕ → Bool) (lent rows : List
           let q : Nothing ≡ At (cycleRule g paths) (cycleOccurrence g paths) =
           sym e ∙ (cycle-is ∙ ap (λ (b : Bool). cond b (At (cycleRule g paths) (cycleOccurrence g paths)) Nothing) f) in
           absurd (let z : _≡_ {A = ℕ} 0 1 = cc in omega arith)
-
-  -- and back: nothing circular, nothing found
-  pub nothing-circular : circular g paths ≡ false → cycleIn rows (rules g) ≡ Nothing
-  nothing-circular f = cycle-is ∙ ap (λ (b : Bool). cond b (At (cycleRule g paths) (cycleOccurrence g paths)) Nothing) f

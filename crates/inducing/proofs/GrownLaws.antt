@@ -53,11 +53,6 @@ grown-same before base arc other after v forth back =
       sound = λ o x h t. path-map (λ m n q. ⊎-elim (λ y. inl y) (λ y. inr (forth m n y)) q) (v .sound o x h t);
     }
 
-pub closes-same : (before : List ℕ) (base among : ℕ) (arc other : ℕ → ℕ → Type 0) (after : List ℕ) → Closes before base among arc after
-    → ((c d : ℕ) → arc c d → other c d) → ((c d : ℕ) → other c d → arc c d) → Closes before base among other after
-closes-same before base among arc other after v forth back =
-    record { grown = grown-same before base arc other after (v .grown) forth back; kept = v .kept }
-
 -- arcs between occurrences, added to rows between these
 pub grown-starts : (before : List ℕ) (base among : ℕ) (arc : ℕ → ℕ → Type 0) (mid : List ℕ) → Kept before base among → Inside among arc
     → Grown before base arc mid → Starts mid base among

@@ -131,9 +131,6 @@ module _ (g offsets : List ℕ) (r : ℕ) (w : RuleOf g offsets r) (p : ℕ) (e 
             );
       }
 
-  pub rule-few : functionsAt g p ≤ 64
-  rule-few = rule-ruled .few
-
   pub rule-functions-fit : (among : ℕ) → among ≡ occurrencesAt g p → FunctionsFit g p among
   rule-functions-fit among a =
       subst⁻¹ (λ (s : ℕ). FunctionsFit g p s) a

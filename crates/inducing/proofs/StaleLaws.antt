@@ -7,14 +7,13 @@ use mathlib.Core.Bool.{Bool, not}
 use mathlib.Core.List.{List}
 use native.Mathlib.Omega.{arith}
 use lib.Dec.{T, T-not, eqb→eq}
-use lib.Pow.{pow-pos}
 use lib.ListN.{length, replicate, length-replicate}
 use Rattle.bits.specs.Bit.{bit, hasb, below, remove, union, minus, First}
 use Rattle.bits.specs.Bit as sets
-use Rattle.bits.proofs.BitLaws.{bit-has, bit-below, bit-of-zero}
+use Rattle.bits.proofs.BitLaws.{bit-has, bit-of-zero}
 use Rattle.bits.proofs.SetLaws.{bit-union}
 use Rattle.bits.proofs.CountLaws.{count-le, count-ext, count-remove}
-use Rattle.bits.proofs.MemberLaws.{none-left, some-member, has-not, has-other, hasb-below, union-cases, union-left, union-right, minus-both}
+use Rattle.bits.proofs.MemberLaws.{none-left, some-member, has-not, has-other, union-cases, union-left, union-right, minus-both}
 use Rattle.basics.specs.Tests.{count}
 use Rattle.basics.specs.Lists.{word}
 use Rattle.basics.proofs.TestLaws.{true-T, same-or-not, below-or-not, count-more}
