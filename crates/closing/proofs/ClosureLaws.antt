@@ -1,7 +1,7 @@
 -- Closing rows by some middles after others. Once m was a middle, a path to m and one from m are one path, and later middles keep it so:
 -- if both parts go by way of later ones, so does the whole. Assumes nothing.
 use Prim.Native.Nat.{ℕ, _+_, _-_, _*_, _/_, _^_, _≤_, _<_}
-use mathlib.Core.Path.{_≡_, refl, sym, _∙_, subst, subst⁻¹}
+use mathlib.Core.Path.{_≡_, refl, sym, _∙_, ap, subst, subst⁻¹}
 use mathlib.Core.Logic.{_⊎_, inl, inr, ⊎-elim}
 use mathlib.Core.Bool.{Bool, not}
 use mathlib.Core.List.{List}
@@ -13,17 +13,22 @@ use Rattle.bits.specs.End.{End}
 use Rattle.bits.proofs.BitLaws.{bit-has, bit-lacks, bit-below, bit-single-same, bit-single-other}
 use Rattle.bits.proofs.ShiftLaws.{has-raised, raised-low}
 use Rattle.bits.proofs.RestLaws.{rest-of}
-use Rattle.bits.proofs.MemberLaws.{hasb-below, none-left, common-both, both-common, minus-both, both-minus}
+use Rattle.bits.proofs.MemberLaws.{hasb-below, none-left, no-member, common-both, both-common, minus-both, both-minus}
 use Rattle.basics.specs.Lists.{word}
 use Rattle.basics.proofs.TestLaws.{tested, true-T, false-T, same-or-not, below-or-not}
 use Rattle.relations.specs.Paper.{Path⁺}
 use Rattle.relations.proofs.PathLaws.{path-join, path-map, path-into, path-first}
 use Rattle.closing.specs.Rows.{leads, Arc, Starts}
-use Rattle.closing.specs.Closure.{rowBy, passed, ArcOf, Meeting, Closure, Anew, Stepped}
-use Rattle.closing.specs.Fours.{OfFour, Unions, rowByFour}
+use Rattle.closing.specs.Closure.{rowBy, ArcOf, Meeting, Closure, Anew, Stepped}
+use Rattle.closing.specs.Fours.{OfFour, Closed, Unions, rowByFour}
 use Rattle.closing.proofs.RewriteLaws.{still, gone}
-use Rattle.closing.proofs.PassLaws.{Through, anew-through, by-gets, passed-through}
+use Rattle.closing.proofs.PassLaws.{Through, passed, by-gets, passed-through}
 use Rattle.closing.proofs.FourLaws.{four-gets}
+
+-- a path is an arc, or starts with one
+path-front : {R : ℕ → ℕ → Type 0} {a c : ℕ} → Path⁺ R a c → R a c ⊎ ((b : ℕ) × R a b × Path⁺ R b c)
+path-front (Path⁺.one e) = inl e
+path-front (Path⁺.more {b = b} p e) = ⊎-elim (λ f. inr (b, f, Path⁺.one e)) (λ f. inr (f .0, f .1, Path⁺.more (f .2) e)) (path-front p)
 
 -- ---- one middle alone
 
@@ -63,14 +68,16 @@ lone-step rows base count here m rest after f e z v =
 
 -- ---- some of four middles
 
--- paths need not meet anywhere for the whole set to be closed
-pub whole-meeting : (rows : List ℕ) (base here : ℕ) → Meeting rows base here here
-whole-meeting rows base here = record { within = λ m t. t; meets = λ o j x n s t. absurd (T-not (hasb j here) n (t .0)) }
-
-pub four-step : (rows : List ℕ) (base here k count : ℕ) (between unions after : List ℕ) → OfFour k here → Closure rows base here between
-    → Unions between base here k 16 unions → Anew between base (rowByFour k unions) count after → Stepped rows base count here after
-four-step rows base here k count between unions after four w u v =
-    record { between = between; closure = w; becomes = rowByFour k unions; gets = four-gets between base here k unions four u; anew = v }
+pub four-step : (rows : List ℕ) (base here k count : ℕ) (four unions after : List ℕ) → OfFour k here → Closed rows base here k four
+    → Unions four 16 unions → Anew rows base (rowByFour k unions) count after → Stepped rows base count here after
+four-step rows base here k count four unions after some w u v =
+    record {
+      between = w .between;
+      closure = w .closure;
+      becomes = rowByFour k unions;
+      gets = four-gets (w .between) base here k four unions some (w .four-rows) u;
+      anew = v;
+    }
 
 some-in : (m s : ℕ) → T (hasb m s) → 0 < s
 some-in m s t =
@@ -210,21 +217,36 @@ module _ (before : List ℕ) (base among : ℕ) where
               ⊎-elim (λ h. at-middle o j x io h a b) (λ m. before-it o j x io ij m a b) (done j n);
         }
 
-  pub closing-turn : (rows : List ℕ) (left m next : ℕ) (after : List ℕ) → Closing before base among left rows → among < 2 ^ 64 → First left m
-      → next ≡ remove (lowest 64 left) left → after ≡ passed rows base among m → Closing before base among next after
-  closing-turn rows left m next after w small f e h =
-      subst⁻¹ (λ (n : ℕ). Closing before base among n after) (rest-of left m next f e)
-      (closing-more rows left (2 ^ m) (remove m left) rows after w (alone rows base (2 ^ m) m (single-only m))
-      (passed-through rows base among (2 ^ m) m after small (omega (arith, w .size, w .room)) (single-has m) (single-only m) h)
-      (λ i t. subst⁻¹ (λ (n : ℕ). T (hasb n left)) (single-only m i t) (true-T _ (bit-has m left (f .member)))) (λ i t. still m left i t)
-      (λ i t. ⊎-elim (λ q. inl (subst⁻¹ (λ (n : ℕ). T (hasb n (2 ^ m))) q (single-has m))) (λ q. inr q) (gone m left i t)))
+  -- by way of one middle
+  pub closing-single : (rows : List ℕ) (left m : ℕ) → Closing before base among left rows → among < 2 ^ 64 → T (hasb m left)
+      → Closing before base among (remove m left) (passed rows base among m)
+  closing-single rows left m w small member =
+      closing-more rows left (2 ^ m) (remove m left) rows (passed rows base among m) w (alone rows base (2 ^ m) m (single-only m))
+      (passed-through rows base among (2 ^ m) m (passed rows base among m) small (omega (arith, w .size, w .room)) (single-has m) (single-only m) refl)
+      (λ i t. subst⁻¹ (λ (n : ℕ). T (hasb n left)) (single-only m i t) member) (λ i t. still m left i t)
+      (λ i t. ⊎-elim (λ q. inl (subst⁻¹ (λ (n : ℕ). T (hasb n (2 ^ m))) q (single-has m))) (λ q. inr q) (gone m left i t))
 
+  -- where m is no member, it makes no difference whether it is left
+  pub closing-absent : (rows : List ℕ) (left m : ℕ) → Closing before base among left rows → T (not (hasb m among)) → Closing before base among (remove m left) rows
+  closing-absent rows left m w n =
+      record {
+        room = w .room;
+        size = w .size;
+        outside = w .outside;
+        idle = w .idle;
+        within = λ o t. w .within o (still m left o t);
+        keeps = w .keeps;
+        sound = w .sound;
+        meets = λ o j x io ij t.
+            w .meets o j x io ij (⊎-elim (λ q. absurd (T-not (hasb m among) n (subst (λ (y : ℕ). T (hasb y among)) q ij))) (λ q. q) (gone m left j t));
+      }
+
+  -- by way of some: the first rows are written anew, and those of no member are empty and stay so
   pub closing-step : (rows : List ℕ) (left four here next count : ℕ) (after : List ℕ) → Closing before base among left rows → Starts before base among
       → End among count → here ≡ common left four → next ≡ minus left here → Stepped rows base count here after → Closing before base among next after
   unfolding leads
   closing-step rows left four here next count after w starts end e h v =
-      closing-more rows left here next (v .between) after w (v .closure)
-      (anew-through (v .between) base among here count (v .becomes) after (v .gets) from end (v .anew)) inside
+      closing-more rows left here next (v .between) after w (v .closure) through inside
       (λ m t. minus-both m left here (subst (λ (n : ℕ). T (hasb m n)) h t) .0)
       (λ m t.
       ⊎-elim (λ i. inl i)
@@ -234,14 +256,61 @@ module _ (before : List ℕ) (base among : ℕ) where
       inside : (m : ℕ) → T (hasb m here) → T (hasb m left)
       inside m t = common-both m left four (subst (λ (n : ℕ). T (hasb m n)) e t) .0
 
-      -- only rows of members are written, so every arc starts at one still
-      from : Starts (v .between) base among
-      from o x l t =
-          ⊎-elim (λ i. w .within o (inside o i))
-          (λ n.
-          ⊎-elim (λ i. i)
-          (λ m. starts o x l (subst (λ (y : ℕ). T (hasb x y)) (v .closure .idle o n ∙ w .idle o m) t)) (tested (hasb o among)))
+      outer : (o : ℕ) → T (not (hasb o among)) → T (not (hasb o here))
+      outer o n = not-T (hasb o here) (λ i. T-not (hasb o among) n (w .within o (inside o i)))
+
+      empty : (o : ℕ) → o < count → T (not (hasb o among)) → word rows (base + o) ≡ 0
+      empty o l n =
+          no-member (word rows (base + o))
+          (λ x t. T-not (hasb o among) n (starts o x (omega (arith, l, end .small)) (subst (λ (y : ℕ). T (hasb x y)) (w .idle o n) t)))
+
+      nothing : v .becomes 0 ≡ 0
+      nothing =
+          no-member (v .becomes 0)
+          (λ x t. ⊎-elim (λ l. T-not (hasb x 0) (none-left x) l) (λ l. T-not (hasb (l .0) 0) (none-left (l .0)) (l .2)) (v .gets .sound 0 x t))
+
+      is : (o : ℕ) → T (hasb o among) → word after (base + o) ≡ v .becomes (word rows (base + o))
+      is o i = v .anew .new o (hasb-below count o among (end .above) i)
+
+      keep : (o x : ℕ) → T (hasb x (word rows (base + o))) → T (hasb x (word (v .between) (base + o)))
+      keep o x t =
+          ⊎-elim (λ i. v .closure .has o x (Path⁺.one (i, t))) (λ n. subst⁻¹ (λ (y : ℕ). T (hasb x y)) (v .closure .idle o n) t) (tested (hasb o here))
+
+      -- a path within the middles starts with an arc that was there
+      first : (o x : ℕ) → T (hasb o among) → Path⁺ (ArcOf rows base here) o x → T (hasb x (word after (base + o)))
+      first o x i p =
+          subst⁻¹ (λ (y : ℕ). T (hasb x y)) (is o i)
+          (⊎-elim (λ a. v .gets .keeps (word rows (base + o)) x (a .1)) (λ a. onward (a .0) (a .1) (a .2)) (path-front p))
+        where
+          onward : (m : ℕ) → ArcOf rows base here o m → Path⁺ (ArcOf rows base here) m x → T (hasb x (v .becomes (word rows (base + o))))
+          onward m a q = v .gets .by-way (word rows (base + o)) m x (path-first q .1 .0) (a .1) (v .closure .has m x q)
+
+      forth : (o x : ℕ) → T (hasb o among) → T (hasb x (word (v .between) (base + o))) → T (hasb x (word after (base + o)))
+      forth o x i t =
+          ⊎-elim (λ l. first o x i (v .closure .sound o x l t))
+          (λ n. subst⁻¹ (λ (y : ℕ). T (hasb x y)) (is o i) (v .gets .keeps (word rows (base + o)) x (subst (λ (y : ℕ). T (hasb x y)) (v .closure .idle o n) t)))
           (tested (hasb o here))
+
+      through : Through (v .between) base among here after
+      through =
+          record {
+            size = v .anew .size ∙ sym (v .closure .size);
+            outside = λ j out.
+                v .anew .rest j (⊎-elim (λ l. inl l) (λ l. inr (omega (arith, l, end .small))) out) ∙ sym (v .closure .outside j out);
+            idle = λ o n.
+                ⊎-elim (λ l. v .anew .new o l ∙ (ap (v .becomes) (empty o l n) ∙ (nothing ∙ sym (empty o l n))))
+                (λ l. v .anew .rest (base + o) (inr (omega (arith, l)))) (below-or-not o count)
+                ∙ sym (v .closure .idle o (outer o n));
+            keeps = forth;
+            by-way = λ o m x i l s t.
+                ⊎-elim (λ k. first o x i (path-join (v .closure .sound o m k s) (v .closure .sound m x l t)))
+                (λ n.
+                subst⁻¹ (λ (y : ℕ). T (hasb x y)) (is o i)
+                (v .gets .by-way (word rows (base + o)) m x l (subst (λ (y : ℕ). T (hasb m y)) (v .closure .idle o n) s) t)) (tested (hasb o here));
+            sound = λ o x i t.
+                ⊎-elim (λ l. inl (keep o x l)) (λ l. inr (l .0, l .1, keep o (l .0) (l .2), l .3))
+                (v .gets .sound (word rows (base + o)) x (subst (λ (y : ℕ). T (hasb x y)) (is o i) t));
+          }
 
   pub closing-finish : (rows : List ℕ) (left : ℕ) → Closing before base among left rows → left ≡ 0 → Closure before base among rows
   closing-finish rows left w e =

@@ -16,7 +16,7 @@ use Rattle.bits.proofs.ShiftLaws.{bit-cut, bit-down}
 use Rattle.bits.proofs.MemberLaws.{hasb-below, insert-cases, insert-new, insert-old, union-cases, union-left, union-right, none-left}
 use Rattle.basics.specs.Lists.{word}
 use Rattle.basics.proofs.TestLaws.{below-or-not, below-suc, chosen, passed-over, tested}
-use Rattle.closing.specs.Fours.{OfFour, rowOf, Doubled, Unions, fourAt, rowByFour}
+use Rattle.closing.specs.Fours.{OfFour, rowOf, RowsOf, Doubled, Unions, fourAt, rowByFour}
 use Rattle.closing.specs.Closure.{Anew, Gets}
 use Rattle.closing.specs.Rows.{leads}
 use Rattle.closing.proofs.PassLaws.{anew-turn}
@@ -30,6 +30,24 @@ row-there rows base here m v t h y e = e ∙ sym (ap (λ (b : Bool). cond b (wor
 pub no-row : (rows : List ℕ) (base here m : ℕ) (t : Bool) → t ≡ hasb m here → t ≡ false → 0 ≡ rowOf rows base here m
 unfolding rowOf
 no-row rows base here m t h n = sym (ap (λ (b : Bool). cond b (word rows (base + m)) 0) (sym h ∙ n))
+
+pub rows-start : (rows : List ℕ) (base here k : ℕ) (four : List ℕ) → four ≡ replicate 4 0 → RowsOf rows base here k 0 four
+rows-start rows base here k four e = record { size = ap length e; are = λ i h. absurd (omega (arith, h)) }
+
+pub rows-turn : (rows : List ℕ) (base here k i : ℕ) (four : List ℕ) (v : ℕ) → RowsOf rows base here k i four → i < 4
+    → v ≡ rowOf rows base here (k + i) → RowsOf rows base here k (i + 1) (set four i v)
+rows-turn rows base here k i four v w h e =
+    record {
+      size = length-set four i v ∙ w .size;
+      are = λ j l.
+          ⊎-elim (λ q. getD-set-other four i j v 0 (λ z. omega (arith, z)) ∙ w .are j q)
+          (λ q.
+          subst⁻¹ (λ (n : ℕ). word (set four i v) n ≡ rowOf rows base here (k + n)) q
+          (getD-set-same four i v 0 (omega (arith, w .size, h)) ∙ e)) (below-suc j i (omega (arith, l)));
+    }
+
+pub rows-finish : (rows : List ℕ) (base here k i : ℕ) (four : List ℕ) → RowsOf rows base here k i four → i ≤ 4 → 4 ≤ i → RowsOf rows base here k 4 four
+rows-finish rows base here k i four w h l = let e : i ≡ 4 = omega arith in subst (λ (n : ℕ). RowsOf rows base here k n four) e w
 
 -- ---- doubling a table of unions
 
@@ -68,8 +86,8 @@ above-is i s h =
     let e : s + (1 - bit i s) * 2 ^ i ≡ s + 1 * 2 ^ i = ap (λ (b : ℕ). s + (1 - b) * 2 ^ i) (bit-above i i s h (omega arith)) in
     omega (arith, e)
 
-module _ (rows : List ℕ) (base here k : ℕ) where
-  unions-start : (unions : List ℕ) → unions ≡ replicate 16 0 → Unions rows base here k 1 unions
+module _ (rows : List ℕ) where
+  unions-start : (unions : List ℕ) → unions ≡ replicate 16 0 → Unions rows 1 unions
   unions-start unions e =
       record {
         size = ap length e;
@@ -81,9 +99,9 @@ module _ (rows : List ℕ) (base here k : ℕ) where
             (subst (λ (y : ℕ). T (hasb x (word (replicate 16 0) y))) z (subst (λ (y : List ℕ). T (hasb x (word y s))) e t)));
       }
 
-  -- those that have the row of k + i too
-  unions-double : (i count row : ℕ) (before after : List ℕ) → count ≡ 2 ^ i → Unions rows base here k count before → row ≡ rowOf rows base here (k + i)
-      → Doubled before count row count after → Unions rows base here k (count + count) after
+  -- those that have row i too
+  unions-double : (i count row : ℕ) (before after : List ℕ) → count ≡ 2 ^ i → Unions rows count before → row ≡ word rows i
+      → Doubled before count row count after → Unions rows (count + count) after
   unions-double i count row before after p w e d =
       record {
         size = d .size ∙ w .size;
@@ -97,7 +115,7 @@ module _ (rows : List ℕ) (base here k : ℕ) where
             (⊎-elim
             (λ z.
             union-right x (word before (s - count)) row
-            (subst⁻¹ (λ (y : ℕ). T (hasb x y)) e (subst (λ (y : ℕ). T (hasb x (rowOf rows base here (k + y)))) z t)))
+            (subst⁻¹ (λ (y : ℕ). T (hasb x y)) e (subst (λ (y : ℕ). T (hasb x (word rows y))) z t)))
             (λ z. union-left x (word before (s - count)) row (w .has (s - count) j x low z t))
             (insert-cases j i (s - count) (subst (λ (y : ℕ). T (hasb j y)) (q ∙ raised-is (s - count) low) m)))))
             (below-or-not s count);
@@ -118,15 +136,12 @@ module _ (rows : List ℕ) (base here k : ℕ) where
       raised-is : (s : ℕ) → s < count → count + s ≡ insert i s
       raised-is s h = ap (λ (n : ℕ). n + s) p ∙ above-is i s (subst (λ (n : ℕ). s < n) p h)
 
-  pub unions-four : (first second third fourth : ℕ) (none one two four eight : List ℕ) → none ≡ replicate 16 0
-      → first ≡ rowOf rows base here k → Doubled none 1 first 1 one → second ≡ rowOf rows base here (k + 1) → Doubled one 2 second 2 two
-      → third ≡ rowOf rows base here (k + 2) → Doubled two 4 third 4 four → fourth ≡ rowOf rows base here (k + 3) → Doubled four 8 fourth 8 eight
-      → Unions rows base here k 16 eight
-  unions-four first second third fourth none one two four eight z e a f b g c h d =
-      unions-double 3 8 fourth four eight refl
-      (unions-double 2 4 third two four refl
-      (unions-double 1 2 second one two refl
-      (unions-double 0 1 first none one refl (unions-start none z) (e ∙ ap (λ (n : ℕ). rowOf rows base here n) (omega arith)) a) f b) g c) h d
+  pub unions-four : (none one two four eight : List ℕ) → none ≡ replicate 16 0 → Doubled none 1 (word rows 0) 1 one → Doubled one 2 (word rows 1) 2 two
+      → Doubled two 4 (word rows 2) 4 four → Doubled four 8 (word rows 3) 8 eight → Unions rows 16 eight
+  unions-four none one two four eight z a b c d =
+      unions-double 3 8 (word rows 3) four eight refl
+      (unions-double 2 4 (word rows 2) two four refl
+      (unions-double 1 2 (word rows 1) one two refl (unions-double 0 1 (word rows 0) none one refl (unions-start none z) refl a) refl b) refl c) refl d
 
 -- ---- what a row gets
 
@@ -141,19 +156,20 @@ unfolding rowByFour
 four-turn before base count k unions o rows i v w h l m e q =
     anew-turn before base (rowByFour k unions) o rows v w (omega arith) (q ∙ ap (λ (n : ℕ). union (word rows (base + o)) (word unions n)) e)
 
-pub four-gets : (rows : List ℕ) (base middles k : ℕ) (unions : List ℕ) → OfFour k middles → Unions rows base middles k 16 unions
+pub four-gets : (rows : List ℕ) (base middles k : ℕ) (four unions : List ℕ) → OfFour k middles → RowsOf rows base middles k 4 four → Unions four 16 unions
     → Gets rows base middles (rowByFour k unions)
 unfolding rowByFour leads rowOf fourAt
-four-gets rows base middles k unions four w =
+four-gets rows base middles k four unions some r w =
     record {
       keeps = λ row x t. union-left x row _ t;
       by-way = λ row m x h s t.
-          let q : m ≡ k + (m - k) = omega (arith, four m h .0) in
+          let q : m ≡ k + (m - k) = omega (arith, some m h .0) in
+          let l : m - k < 4 = omega (arith, some m h .1) in
           union-right x row _
-          (w .has (fourAt k row) (m - k) x (small row)
-          (subst⁻¹ (λ (b : Bool). T b) (at row (m - k) (omega (arith, four m h .1))) (subst (λ (y : ℕ). T (hasb y row)) q s))
+          (w .has (fourAt k row) (m - k) x (small row) (subst⁻¹ (λ (b : Bool). T b) (at row (m - k) l) (subst (λ (y : ℕ). T (hasb y row)) q s))
+          (subst⁻¹ (λ (y : ℕ). T (hasb x y)) (r .are (m - k) l)
           (subst⁻¹ (λ (y : ℕ). T (hasb x y)) (chosen (hasb (k + (m - k)) middles) _ _ (subst (λ (y : ℕ). T (hasb y middles)) q h))
-          (subst (λ (y : ℕ). T (hasb x (word rows (base + y)))) q t)));
+          (subst (λ (y : ℕ). T (hasb x (word rows (base + y)))) q t))));
       sound = λ row x t. ⊎-elim (λ l. inl l) (λ l. inr (via row x (w .sound (fourAt k row) x (small row) l))) (union-cases x row _ t);
     }
   where
@@ -163,12 +179,12 @@ four-gets rows base middles k unions four w =
     at : (row i : ℕ) → i < 4 → hasb i (fourAt k row) ≡ hasb (k + i) row
     at row i h = ap (λ (n : ℕ). eqb n 1) (bit-cut 4 i (row / 2 ^ k) h ∙ bit-down k i row)
 
-    via : (row x : ℕ) → (i : ℕ) × T (hasb i (fourAt k row)) × T (hasb x (rowOf rows base middles (k + i)))
+    via : (row x : ℕ) → (i : ℕ) × T (hasb i (fourAt k row)) × T (hasb x (word four i))
         → (m : ℕ) × T (hasb m middles) × T (hasb m row) × T (leads rows base m x)
     via row x (i, m, t) =
         let h = hasb-below 4 i (fourAt k row) (small row) m in
+        let u = subst (λ (y : ℕ). T (hasb x y)) (r .are i h) t in
         ⊎-elim
-        (λ r.
-        (k + i, r, subst (λ (b : Bool). T b) (at row i h) m, subst (λ (y : ℕ). T (hasb x y)) (chosen (hasb (k + i) middles) _ _ r) t))
-        (λ r. absurd (T-not (hasb x 0) (none-left x) (subst (λ (y : ℕ). T (hasb x y)) (passed-over (hasb (k + i) middles) _ _ r) t)))
+        (λ r. (k + i, r, subst (λ (b : Bool). T b) (at row i h) m, subst (λ (y : ℕ). T (hasb x y)) (chosen (hasb (k + i) middles) _ _ r) u))
+        (λ r. absurd (T-not (hasb x 0) (none-left x) (subst (λ (y : ℕ). T (hasb x y)) (passed-over (hasb (k + i) middles) _ _ r) u)))
         (tested (hasb (k + i) middles))

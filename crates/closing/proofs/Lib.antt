@@ -5,4 +5,5 @@ pub mod InnerLaws
 pub mod PassLaws
 pub mod FourLaws
 pub mod ClosureLaws
+pub mod FourClosing
 pub mod GatherLaws

@@ -1,51 +1,20 @@
--- Writing each row of a set anew from itself, and what leads where afterwards: the paths by way of one middle, or of one of four. Assumes nothing.
+-- Writing rows anew, each from itself, and what leads where afterwards: the paths by way of one of some middles. Assumes nothing.
 use Prim.Native.Nat.{ℕ, _+_, _^_, _≤_, _<_}
 use mathlib.Core.Path.{_≡_, refl, sym, _∙_, ap, subst, subst⁻¹}
 use mathlib.Core.Logic.{_⊎_, inl, inr, ⊎-elim}
 use mathlib.Core.Bool.{Bool, true, false, cond, not}
 use mathlib.Core.List.{List}
 use native.Mathlib.Omega.{arith}
-use lib.Dec.{T, T-not}
+use lib.Dec.{T}
 use lib.ListN.{length, set, length-set}
 use lib.Seq.{getD-set-same, getD-set-other}
-use Rattle.bits.specs.Bit.{hasb, union, remove, lowest, First}
-use Rattle.bits.specs.End.{End}
-use Rattle.bits.proofs.BitLaws.{bit-has}
-use Rattle.bits.proofs.RestLaws.{rest-of}
-use Rattle.bits.proofs.MemberLaws.{hasb-below, union-cases, union-left, union-right, none-left, no-member}
+use Rattle.bits.specs.Bit.{hasb, union}
+use Rattle.bits.proofs.MemberLaws.{hasb-below, union-cases, union-left, union-right}
 use Rattle.basics.specs.Lists.{word}
-use Rattle.basics.proofs.TestLaws.{chosen, passed-over, tested, true-T, below-or-not, below-suc}
-use Rattle.closing.specs.Rows.{leads, Starts, rewritten}
-use Rattle.closing.specs.Closure.{rowBy, passed, Anew, Gets}
-use Rattle.closing.proofs.RewriteLaws.{Rewriting, rewriting-start, next-same, turn, finish}
+use Rattle.basics.proofs.TestLaws.{chosen, passed-over, tested, below-suc}
+use Rattle.closing.specs.Rows.{leads, rewritten}
+use Rattle.closing.specs.Closure.{rowBy, Anew, Gets}
 use Rattle.closing.proofs.RewrittenLaws.{rewritten-length, rewritten-outside, rewritten-idle, rewritten-at}
-
--- The invariant of a loop over the rows of a set: g says what a row becomes.
-pub record Passing (entry : List ℕ) (base among : ℕ) (g : ℕ → ℕ) (rows : List ℕ) (left : ℕ) : Type 0 where
-  pub room : base + 64 ≤ length entry
-  pub size : length rows ≡ length entry
-  pub rewriting : Rewriting entry base among (λ o. g (word entry (base + o))) rows left
-
-module _ (entry : List ℕ) (base among : ℕ) (g : ℕ → ℕ) where
-  pub passing-start : among < 2 ^ 64 → base + 64 ≤ length entry → Passing entry base among g entry among
-  passing-start small h =
-      record {
-        room = h;
-        size = refl;
-        rewriting = rewriting-start entry base among (λ o. g (word entry (base + o))) (λ o t. omega (arith, hasb-below 64 o among small t));
-      }
-
-  -- the row that is next is as it was, so it gets what it is to get
-  pub passing-turn : (rows : List ℕ) (left o next v : ℕ) → Passing entry base among g rows left → First left o
-      → next ≡ remove (lowest 64 left) left → v ≡ g (word rows (base + o)) → Passing entry base among g (set rows (base + o) v) next
-  passing-turn rows left o next v w f e h =
-      let same = next-same entry base among _ rows left o (w .rewriting) (f .small) (true-T _ (bit-has o left (f .member))) in
-      let r = turn entry base among _ rows left o next v (w .rewriting) f (rest-of left o next f e) (h ∙ ap g same) in
-      record { room = w .room; size = r .size; rewriting = r }
-
-  pub passing-finish : (rows : List ℕ) (left : ℕ) → Passing entry base among g rows left → left ≡ 0
-      → rows ≡ rewritten entry base among (λ o. g (word entry (base + o)))
-  passing-finish rows left w e = finish entry base among _ rows left (w .rewriting) e
 
 -- ---- a loop over the first rows
 
@@ -105,28 +74,11 @@ gets-through rows base among middles g after w size outside idle is =
     into : (o x : ℕ) → T (hasb o among) → T (hasb x (g (word rows (base + o)))) → T (hasb x (word after (base + o)))
     into o x i t = subst⁻¹ (λ (y : ℕ). T (hasb x y)) (is o i) t
 
--- where the first rows are written anew, those of no member are empty and stay so
-pub anew-through : (rows : List ℕ) (base among middles count : ℕ) (g : ℕ → ℕ) (after : List ℕ) → Gets rows base middles g → Starts rows base among
-    → End among count → Anew rows base g count after → Through rows base among middles after
-unfolding leads
-anew-through rows base among middles count g after w starts end v =
-    gets-through rows base among middles g after w (v .size)
-    (λ j out. v .rest j (⊎-elim (λ l. inl l) (λ l. inr (omega (arith, l, end .small))) out))
-    (λ o n.
-    ⊎-elim (λ h. v .new o h ∙ (ap g (empty o h n) ∙ (nothing ∙ sym (empty o h n)))) (λ h. v .rest (base + o) (inr (omega (arith, h))))
-    (below-or-not o count))
-    (λ o i. v .new o (hasb-below count o among (end .above) i))
-  where
-    empty : (o : ℕ) → o < count → T (not (hasb o among)) → word rows (base + o) ≡ 0
-    empty o h n =
-        no-member (word rows (base + o)) (λ x t. T-not (hasb o among) n (starts o x (omega (arith, h, end .small)) t))
-
-    nothing : g 0 ≡ 0
-    nothing =
-        no-member (g 0)
-        (λ x t. ⊎-elim (λ l. T-not (hasb x 0) (none-left x) l) (λ l. T-not (hasb (l .0) 0) (none-left (l .0)) (l .2)) (w .sound 0 x t))
-
 -- ---- one middle
+
+-- the rows of a set with the paths by way of m
+unfoldable pub passed : List ℕ → ℕ → ℕ → ℕ → List ℕ
+passed rows base among m = rewritten rows base among (λ o. rowBy m (word rows (base + m)) (word rows (base + o)))
 
 pub by-way : (row m onward v : ℕ) (t : Bool) → t ≡ hasb m row → t ≡ true → v ≡ union row onward → v ≡ rowBy m onward row
 unfolding rowBy
@@ -135,13 +87,6 @@ by-way row m onward v t h y e = e ∙ sym (ap (λ (b : Bool). cond b (union row 
 pub no-by-way : (row m onward : ℕ) (t : Bool) → t ≡ hasb m row → t ≡ false → row ≡ rowBy m onward row
 unfolding rowBy
 no-by-way row m onward t h n = sym (ap (λ (b : Bool). cond b (union row onward) row) (sym h ∙ n))
-
-pub passed-finish : (entry : List ℕ) (base among m onward : ℕ) (rows : List ℕ) (left : ℕ) → Passing entry base among (rowBy m onward) rows left
-    → left ≡ 0 → onward ≡ word entry (base + m) → rows ≡ passed entry base among m
-unfolding passed
-passed-finish entry base among m onward rows left w e h =
-    passing-finish entry base among (rowBy m (word entry (base + m))) rows left
-    (subst (λ (n : ℕ). Passing entry base among (rowBy m n) rows left) h w) e
 
 pub first-turn : (before : List ℕ) (base count m onward o : ℕ) (rows : List ℕ) (v : ℕ) → Anew before base (rowBy m onward) o rows
     → base + 64 ≤ length before → o < count → count ≤ 64 → v ≡ rowBy m onward (word rows (base + o))

@@ -55,16 +55,6 @@ module _ (entry : List ℕ) (base among : ℕ) (f : ℕ → ℕ) where
       }
 
   module _ (rows : List ℕ) (left o : ℕ) (w : Rewriting entry base among f rows left) (small : o < 64) (stands : T (hasb o left)) where
-    -- the word that is to be done next is as it was
-    pub next-same : word rows (base + o) ≡ word entry (base + o)
-    unfolding done
-    next-same =
-        let e : base + o - base ≡ o = omega arith in
-        w .words (base + o)
-        ∙ passed-over (done base among left (base + o)) _ _
-        (not-T (done base among left (base + o))
-        (λ t. T-not (hasb (base + o - base) left) (and-right _ _ t) (subst⁻¹ (λ (x : ℕ). T (hasb x left)) e stands)))
-
     now-done : T (done base among (remove o left) (base + o))
     unfolding done
     now-done =

@@ -10,15 +10,11 @@ use lib.ListN.{length}
 use Rattle.bits.specs.Bit.{hasb, union}
 use Rattle.basics.specs.Lists.{word}
 use Rattle.relations.specs.Paper.{Path⁺}
-use Rattle.closing.specs.Rows.{leads, rewritten}
+use Rattle.closing.specs.Rows.{leads}
 
 -- a row with the paths by way of m, which leads onward to some
 unfoldable pub rowBy : ℕ → ℕ → ℕ → ℕ
 rowBy m onward row = cond (hasb m row) (union row onward) row
-
--- the rows of a set with the paths by way of m
-unfoldable pub passed : List ℕ → ℕ → ℕ → ℕ → List ℕ
-passed rows base among m = rewritten rows base among (λ o. rowBy m (word rows (base + m)) (word rows (base + o)))
 
 -- an arc of the rows that starts at a member of a set
 abbrev pub ArcOf : List ℕ → ℕ → ℕ → ℕ → ℕ → Type 0
@@ -56,11 +52,11 @@ pub record Gets (rows : List ℕ) (base middles : ℕ) (g : ℕ → ℕ) : Type 
   pub by-way : (row m x : ℕ) → T (hasb m middles) → T (hasb m row) → T (leads rows base m x) → T (hasb x (g row))
   pub sound : (row x : ℕ) → T (hasb x (g row)) → T (hasb x row) ⊎ ((m : ℕ) × T (hasb m middles) × T (hasb m row) × T (leads rows base m x))
 
--- The first rows with the paths by way of some middles: these are closed among themselves, and every row that leads to one of them gets what that
+-- The first rows with the paths by way of some middles: once these are closed among themselves, every row that leads to one of them gets what that
 -- one leads to.
 pub record Stepped (before : List ℕ) (base count middles : ℕ) (after : List ℕ) : Type 0 where
   pub between : List ℕ
   pub closure : Closure before base middles between
   pub becomes : ℕ → ℕ
   pub gets : Gets between base middles becomes
-  pub anew : Anew between base becomes count after
+  pub anew : Anew before base becomes count after

@@ -33,6 +33,42 @@ fn row_of(rows: &[u64], base: usize, here: u64, m: usize) -> u64
     0
 }
 
+// The rows of the four from k on.
+fn rows_of(rows: &[u64], base: usize, here: u64, k: usize) -> [u64; 4]
+    requires { ⌜ (base + 64 ≤ length (now rows)) × (k ≤ 60) ⌝ }
+    ensures { λ four. ⌜ spec.RowsOf (now (rows .entry)) base here k 4 four ⌝ }
+{
+    let mut four = [0u64; 4];
+    for i in 0..4usize {
+        four[i] = row_of(rows, base, here, k + i);
+    }
+    four
+}
+
+// The paths by way of one of them.
+fn pass_rows(four: &mut [u64; 4], m: usize, onward: u64)
+    requires { ⌜ (length (now four) ≡ 4) × (m < 64) ⌝ }
+    ensures { λ _. ⌜ closure.Anew (now (four .entry)) 0 (closure.rowBy m onward) 4 (now (four .exit)) ⌝ }
+{
+    for j in 0..4usize {
+        four[j] = super::by(four[j], m, onward);
+    }
+}
+
+// The rows of the four from k on, closed among themselves: one after the other is the middle.
+pub fn closed(rows: &[u64], base: usize, here: u64, k: usize) -> [u64; 4]
+    requires { ⌜ (base + 64 ≤ length (now rows)) × (k ≤ 60) ⌝ }
+    requires { ⌜ spec.OfFour k here ⌝ }
+    ensures { λ four. ⌜ spec.Closed (now (rows .entry)) base here k four ⌝ }
+{
+    let mut four = rows_of(rows, base, here, k);
+    for i in 0..4usize {
+        let onward = four[i];
+        pass_rows(&mut four, k + i, onward);
+    }
+    four
+}
+
 // Doubles a table of unions, of which there are so many: each of them once more, with a further row.
 fn double(unions: &mut [u64; 16], count: usize, row: u64)
     requires { ⌜ (length (now unions) ≡ 16) × (count ≤ 8) ⌝ }
@@ -43,16 +79,15 @@ fn double(unions: &mut [u64; 16], count: usize, row: u64)
     }
 }
 
-// The unions of the rows of those members of a set that are some of the four from k on, by which of the four.
-pub fn unions(rows: &[u64], base: usize, here: u64, k: usize) -> [u64; 16]
-    requires { ⌜ (base + 64 ≤ length (now rows)) × (k ≤ 60) ⌝ }
-    ensures { λ r. ⌜ spec.Unions (now (rows .entry)) base here k 16 r ⌝ }
+// The unions of four rows, by which of them.
+pub fn unions(four: &[u64; 4]) -> [u64; 16]
+    ensures { λ r. ⌜ spec.Unions (now (four .entry)) 16 r ⌝ }
 {
     let mut unions = [0u64; 16];
-    double(&mut unions, 1, row_of(rows, base, here, k));
-    double(&mut unions, 2, row_of(rows, base, here, k + 1));
-    double(&mut unions, 4, row_of(rows, base, here, k + 2));
-    double(&mut unions, 8, row_of(rows, base, here, k + 3));
+    double(&mut unions, 1, four[0]);
+    double(&mut unions, 2, four[1]);
+    double(&mut unions, 4, four[2]);
+    double(&mut unions, 8, four[3]);
     unions
 }
 

@@ -45,21 +45,7 @@ fn by(row: u64, m: usize, onward: u64) -> u64
     row
 }
 
-// The paths by way of one middle: each row of the set that leads to m gets what m leads to.
-fn pass(rows: &mut [u64], base: usize, among: u64, m: usize)
-    requires { ⌜ (base + 64 ≤ length (now rows)) × (m < 64) ⌝ }
-    ensures { λ _. ⌜ now (rows .exit) ≡ closure.passed (now (rows .entry)) base among m ⌝ }
-{
-    let onward = rows[base + m];
-    let mut left = among;
-    while left != 0 {
-        let o = bits::first(left);
-        left = bits::rest(left);
-        rows[base + o] = by(rows[base + o], m, onward);
-    }
-}
-
-// The same for the first rows, of which there are so many.
+// The paths by way of one middle: each of the first rows that leads to m gets what m leads to.
 fn pass_first(rows: &mut [u64], base: usize, count: usize, m: usize)
     requires { ⌜ (base + 64 ≤ length (now rows)) × ((count ≤ 64) × (m < 64)) ⌝ }
     ensures { λ _. ⌜ closure.Anew (now (rows .entry)) base (closure.rowBy m (word (now (rows .entry)) (base + m))) count (now (rows .exit)) ⌝ }
@@ -89,21 +75,6 @@ pub fn inner(rows: &[u64], base: usize, among: u64) -> u64
     bits::common(starts, ends)
 }
 
-// Closes the rows of a set in place, by one middle after the other. The middles are outermost, so that a path that was found by way of one may
-// go on by way of the next. Members at which paths meet already need not be middles.
-fn close_singly(rows: &mut [u64], base: usize, among: u64, middles: u64)
-    requires { ⌜ base + 64 ≤ length (now rows) ⌝ }
-    requires { ⌜ closure.Meeting (now rows) base among middles ⌝ }
-    ensures { λ _. ⌜ closure.Closure (now (rows .entry)) base among (now (rows .exit)) ⌝ }
-{
-    let mut left = middles;
-    while left != 0 {
-        let m = bits::first(left);
-        left = bits::rest(left);
-        pass(rows, base, among, m);
-    }
-}
-
 // The paths by way of middles that are some of the four from k on: these are closed among themselves, and what they lead to is put together for
 // each choice of them, so that every row gets all that it is to get at once.
 fn pass_four(rows: &mut [u64], base: usize, count: usize, here: u64, k: usize)
@@ -111,8 +82,8 @@ fn pass_four(rows: &mut [u64], base: usize, count: usize, here: u64, k: usize)
     requires { ⌜ four.OfFour k here ⌝ }
     ensures { λ _. ⌜ closure.Stepped (now (rows .entry)) base count here (now (rows .exit)) ⌝ }
 {
-    close_singly(rows, base, here, here);
-    let unions = fours::unions(rows, base, here, k);
+    let four = fours::closed(rows, base, here, k);
+    let unions = fours::unions(&four);
     fours::pass(rows, base, count, k, &unions);
 }
 
@@ -129,8 +100,9 @@ fn step(rows: &mut [u64], base: usize, count: usize, here: u64, k: usize)
     pass_four(rows, base, count, here, k);
 }
 
-// Closes the rows of a set in place, by up to four middles at a time. Every arc starts at a member, so that rows of no member are empty and can be
-// gone through with the others.
+// Closes the rows of a set in place, by up to four middles at a time. The middles are outermost, so that a path that was found by way of some may
+// go on by way of the next. Members at which paths meet already need not be middles. Every arc starts at a member, so that rows of no member are
+// empty and can be gone through with the others.
 pub fn close(rows: &mut [u64], base: usize, among: u64, middles: u64)
     requires { ⌜ base + 64 ≤ length (now rows) ⌝ }
     requires { ⌜ closure.Meeting (now rows) base among middles ⌝ }

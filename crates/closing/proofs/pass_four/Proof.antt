@@ -1,11 +1,11 @@
 -- The middles are closed among themselves, and every row gets the union for those that it leads to.
 use borrow.Author.Needs.{needs}
-use Rattle.closing.proofs.ClosureLaws.{whole-meeting, four-step}
+use Rattle.closing.proofs.ClosureLaws.{four-step}
 use Rattle.closing.proofs.pass_four.Statement.{statement}
 use Rattle.closing.proofs.pass_four.Tie as tie
 
-close-singly-requires : tie.Need-close-singly-requires
-close-singly-requires c κs = (search needs, search whole-meeting)
+closed-requires : tie.Need-closed-requires
+closed-requires c κs = search needs
 
 unions-requires : tie.Need-unions-requires
 unions-requires c κs = search needs
@@ -21,4 +21,4 @@ returns c = search four-step
 
 pub pass-four-spec : {M : Type 1} → statement M
 pass-four-spec =
-    tie.close (tie.spec close-singly-requires unions-requires pass-requires same-length returns)
+    tie.close (tie.spec closed-requires unions-requires pass-requires same-length returns)

@@ -4,35 +4,26 @@ use Rattle.closing.proofs.FourLaws.{unions-four}
 use Rattle.closing.proofs.fours.unions.Statement.{statement}
 use Rattle.closing.proofs.fours.unions.Tie as tie
 
-row-of-requires : tie.Need-row-of-requires
-row-of-requires c κs = search needs
+element-copy-out-double : tie.Need-element-copy-out-double
+element-copy-out-double c = search needs
 
 double-requires : tie.Need-double-requires
 double-requires c κs = search needs
 
-add-row-of : tie.Need-add-row-of
-add-row-of c = search needs
-
-row-of-requires-2 : tie.Need-row-of-requires-2
-row-of-requires-2 c κs = search needs
+element-copy-out-double-2 : tie.Need-element-copy-out-double-2
+element-copy-out-double-2 c = search needs
 
 double-requires-2 : tie.Need-double-requires-2
 double-requires-2 c κs = search needs
 
-add-row-of-2 : tie.Need-add-row-of-2
-add-row-of-2 c = search needs
-
-row-of-requires-3 : tie.Need-row-of-requires-3
-row-of-requires-3 c κs = search needs
+element-copy-out-double-3 : tie.Need-element-copy-out-double-3
+element-copy-out-double-3 c = search needs
 
 double-requires-3 : tie.Need-double-requires-3
 double-requires-3 c κs = search needs
 
-add-row-of-3 : tie.Need-add-row-of-3
-add-row-of-3 c = search needs
-
-row-of-requires-4 : tie.Need-row-of-requires-4
-row-of-requires-4 c κs = search needs
+element-copy-out-double-4 : tie.Need-element-copy-out-double-4
+element-copy-out-double-4 c = search needs
 
 double-requires-4 : tie.Need-double-requires-4
 double-requires-4 c κs = search needs
@@ -44,15 +35,12 @@ pub unions-spec : {M : Type 1} → statement M
 unions-spec =
     tie.close
     (tie.spec
-    row-of-requires
+    element-copy-out-double
     double-requires
-    add-row-of
-    row-of-requires-2
+    element-copy-out-double-2
     double-requires-2
-    add-row-of-2
-    row-of-requires-3
+    element-copy-out-double-3
     double-requires-3
-    add-row-of-3
-    row-of-requires-4
+    element-copy-out-double-4
     double-requires-4
     returns)
