@@ -1,5 +1,7 @@
 // The words of a grammar table by symbol, rule and function.
 // A rule is handed on as the word it starts at, a function too; specs/ByPlace.antt says what each is by that word.
+#![tactic(auto)]
+
 ghost use Rattle.std.specs.Prelude.{◌≡◌, ◌+◌, ◌*◌, ◌^◌, ◌≤◌, ◌<◌, length, get_or};
 ghost use Rattle.bits.specs.Bit as bit;
 ghost use Rattle.basics.specs.Lists.{word};

@@ -1,5 +1,7 @@
 // Sets of the numbers 0 to 63, each kept as the bits of one u64: i is a member where bit i is 1.
 // What each function answers is the operation of specs/Bit.antt that bears its name.
+#![tactic(auto)]
+
 ghost use Rattle.std.specs.Prelude.{◌≡◌, cond, ◌≤◌, ◌<◌};
 ghost use Rattle.bits.specs.Bit as sets;
 ghost use Rattle.bits.specs.End.{End};

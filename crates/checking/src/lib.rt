@@ -1,5 +1,7 @@
 // The check of a tree against a grammar: refusals 12 to 18. One walk is enough where 13 to 16 pass and no node is a child twice; where it is not sure,
 // each refusal has a walk of its own, but 13 and 14 together. The grammar is a table that reading accepted, with the offsets of its rules.
+#![tactic(auto)]
+
 mod nodes;
 mod one_walk;
 

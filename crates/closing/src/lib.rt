@@ -1,4 +1,6 @@
 // Relations in lent rows: arcs are added and the rows closed in place. Together they are the function addarctrans of 000, section 7.
+#![tactic(auto)]
+
 mod fours;
 
 ghost use Rattle.std.specs.Prelude.{◌≡◌, ◌+◌, ◌≤◌, ◌<◌, length};

@@ -1,1 +1,2 @@
 // The three demands, and what they rest on: proofs/Demands.
+#![tactic(auto)]

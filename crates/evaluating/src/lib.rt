@@ -1,4 +1,6 @@
 // The value of a function at a node of a tree. The words and values that it reads are there: that is asked of the caller, so nothing is tested.
+#![tactic(auto)]
+
 ghost use Rattle.std.specs.Prelude.{◌≡◌, ◌+◌, ◌≤◌, ◌<◌, length};
 ghost use Rattle.basics.specs.Lists.{word};
 ghost use Rattle.values.specs.Value.{constant};

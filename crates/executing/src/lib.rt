@@ -1,4 +1,6 @@
 // The run of a plan over a checked tree: the stack automaton of 000, section 6.3, with its stack and places in arrays and the node on top in locals.
+#![tactic(auto)]
+
 ghost use Rattle.std.specs.Prelude.{◌≡◌, ◌+◌, ◌*◌, ◌≤◌, ◌<◌, length, set};
 ghost use Rattle.basics.specs.Lists.{word};
 ghost use Rattle.grammar.specs.declared.Verdict.TheVariants.{Good};

@@ -1,4 +1,6 @@
 // Planning and running for C callers: a slice is a pointer and its count of elements, an answer is a status and four numbers (specs/Told, specs/Answered).
+#![tactic(auto)]
+
 ghost use Rattle.std.specs.Prelude.{◌≡◌};
 ghost use Rattle.refusals.specs.Numbers.{number_of, place_of, second_of};
 ghost use Rattle.exports.specs.Answered as answered;

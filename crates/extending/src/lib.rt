@@ -1,5 +1,7 @@
 // EDP of every rule in lent rows: step 4 of 000, section 7. The arcs from higher sets to lower ones are made once for each symbol and
 // then added at each position where it stands.
+#![tactic(auto)]
+
 ghost use Rattle.std.specs.Prelude.{◌≡◌, ◌+◌, ◌*◌, ◌≤◌, ◌<◌, length};
 ghost use Rattle.bits.specs.Bit.{collect};
 ghost use Rattle.grammar.specs.declared.Verdict.TheVariants as verdict;

@@ -1,4 +1,6 @@
 // The grammar table and its reading. `Verdict` is what reading answers; the definitions of `specs/` say which.
+#![tactic(auto)]
+
 use refusals::Refusal;
 
 // Document 01's sizes as the code counts with them; specs/Limits.antt has each with its sentence.

@@ -1,5 +1,7 @@
 // The relations of a grammar's rules in lent rows, 64 words a rule: row o of rule r is word 64r + o, and its bit b says that a path
 // leads from o to b. These are steps 1, 2 and 4 of 000, section 7.
+#![tactic(auto)]
+
 mod dp;
 mod ids;
 

@@ -1,4 +1,6 @@
 // The listing as text in a lent buffer: what does not fit is left out. Each function types at place `at` and answers the next place.
+#![tactic(auto)]
+
 ghost use Rattle.std.specs.Prelude.{◌≡◌, [], ◌∷◌, ◌+◌, ◌*◌, ◌/◌, ◌≤◌, ◌<◌, min, length};
 ghost use Rattle.plans.specs.Buffers.{over};
 ghost use Rattle.basics.specs.Lists.{blocks};

@@ -1,4 +1,6 @@
 // Lists the plan of the table on standard input, or says why there is none.
+#![tactic(auto)]
+
 use libc::{STDERR_FILENO, STDIN_FILENO, STDOUT_FILENO};
 use lister::{LENT_BYTES, MOST_BYTES};
 

@@ -1,4 +1,6 @@
 // The sets of each nonterminal, set after set from the end (000, section 7, step 3), with attributes as bits.
+#![tactic(auto)]
+
 ghost use Rattle.std.specs.Prelude.{◌≡◌, ◌+◌, ◌*◌, ◌≤◌, ◌<◌, length};
 ghost use Rattle.grammar.specs.declared.Verdict.TheVariants.{Good};
 ghost use Rattle.grammar.specs.Limits as limits;

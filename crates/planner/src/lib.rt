@@ -1,4 +1,6 @@
 // Planning: a grammar's table in, its sets and visit-sequences out, or the first refusal of 1 to 10 that applies (000, section 7).
+#![tactic(auto)]
+
 ghost use Rattle.std.specs.Prelude.{◌≡◌, length};
 ghost use Rattle.plans.specs.Buffers.{over};
 ghost use Rattle.plans.specs.Answer as answer;

@@ -1,4 +1,6 @@
 // Lines of words and numbers on standard output, for the programs that show what a run does.
+#![tactic(auto)]
+
 ghost use Rattle.std.specs.Prelude.{◌≡◌, nat_abs};
 
 use libc::STDOUT_FILENO;

@@ -1,6 +1,8 @@
 // Reading a grammar table: the verdict with refusals 1 to 7, in one walk over the words.
 // `words` tests single words, `symbols` what stands before the rules, `functions` and `rules` the rest; a rule and a function are handed on as the word
 // they start at, and specs/ByPlace.antt of access says the tests of each by that word.
+#![tactic(auto)]
+
 ghost use Rattle.std.specs.Prelude.{◌≡◌, replicate};
 ghost use Rattle.grammar.specs.declared.Verdict.TheVariants as verdict;
 ghost use Rattle.grammar.specs.Reading as reading;

@@ -1,4 +1,6 @@
 // The refusals of document 01, one case a number. The definition of `specs/Numbers.antt` gives each case its number and places.
+#![tactic(auto)]
+
 ghost use Rattle.std.specs.Prelude.{◌≡◌};
 ghost use Rattle.refusals.specs.Numbers.{number_of, place_of, second_of};
 

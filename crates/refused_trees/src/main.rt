@@ -1,4 +1,6 @@
 // A damaged tree for each refusal of 12 to 18: what is answered, how many values changed, and how many words of rows and plan.
+#![tactic(auto)]
+
 ghost use Rattle.std.specs.Prelude.{◌≤◌, ◌<◌, ◌≡◌, length};
 ghost use Rattle.refused_trees.specs.Changed as counts;
 

@@ -1,5 +1,7 @@
 // What is left of one rule's visit-sequence (000, section 6.3), whoever orders its actions: what is left before the first action, which
 // visit is ready, and what is left after an action. Three sets hold the actions, a fourth the occurrences that wait to be made available.
+#![tactic(auto)]
+
 ghost use Rattle.std.specs.Prelude.{◌≡◌, ◌+◌, ◌*◌, ◌-◌, ◌/◌, ◌%◌, ◌≤◌, ◌<◌, max};
 ghost use Rattle.bits.specs.Bit as bit;
 ghost use Rattle.grammar.specs.Limits as limits;

@@ -1,4 +1,6 @@
 // The whole job: plan a grammar, check a tree against it and run the visit-sequences over the tree (document 01, refusals 1 to 18).
+#![tactic(auto)]
+
 ghost use Rattle.runner.specs.Answered as answered;
 ghost use Rattle.runner.specs.Whole as whole;
 

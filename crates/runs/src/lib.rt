@@ -1,4 +1,6 @@
 // The run of a plan over a tree. `Report` is what a run answers, and `Ran` how it came out; the definitions of `specs/` say which.
+#![tactic(auto)]
+
 use refusals::Refusal;
 
 #[derive(Drop)]

@@ -1,4 +1,5 @@
 // Document 01's worked example as words: table G, and its tree of two lines.
+#![tactic(auto)]
 
 // Symbols, rules and start; then a line for the symbols and one for each rule.
 pub const G: [u16; 48] = [

@@ -1,4 +1,6 @@
 // Runs: document 01's tree of two lines under every budget, and trees as large as a tree may be.
+#![tactic(auto)]
+
 ghost use Rattle.std.specs.Prelude.{◌≡◌, ◌+◌, ◌*◌, ◌≤◌, ◌<◌, length};
 ghost use Rattle.scenarios.specs.Nodes as nodes;
 

@@ -1,5 +1,7 @@
 // The visit-sequence of one rule (000, section 6.3), written into the lent plan.
 // Of the actions that are left the lowest ready one is always next.
+#![tactic(auto)]
+
 ghost use Rattle.std.specs.Prelude.{◌≡◌, ◌+◌, ◌*◌, ◌≤◌, ◌<◌, length};
 ghost use Rattle.bits.specs.Bit as bit;
 ghost use Rattle.grammar.specs.Limits as limits;

@@ -1,1 +1,2 @@
 // The text that the listing prints. No code yet: what it is stands in specs/.
+#![tactic(auto)]

@@ -54,13 +54,14 @@ difference_fits x y f g = record { sfits = small x (neg_ℤ y) (omega (arith, f.
 
 module _ (op : ℤ → ℤ → ℤ) (wide : (x y : ℤ) → SFits w32 x → SFits w32 y → SFits w64 (op x y)) {a b x y : ℤ} (p : a ≡ to_z w32 (of_z w32 x)) (q : b ≡ to_z w32 (of_z w32 y)) (f : SFits w32 x) (g : SFits w32 y) where
   pub same_operands : op (to_z w64 (of_z w64 a)) (to_z w64 (of_z w64 b)) ≡ op x y
-  same_operands = ap₂ op (read (p ∙ to_z-of_z f) (sfits_widen tt f)) (read (q ∙ to_z-of_z g) (sfits_widen tt g))
+  same_operands =
+      ap₂ op (read {w = w64} (p ∙ to_z-of_z f) (sfits_widen {w = w32} {w' = w64} tt f)) (read {w = w64} (q ∙ to_z-of_z g) (sfits_widen {w = w32} {w' = w64} tt g))
 
   pub wide_fits : SFits w64 (op (to_z w64 (of_z w64 a)) (to_z w64 (of_z w64 b)))
   wide_fits = subst⁻¹ (SFits w64) same_operands (wide x y f g)
 
   pub wide_held : {r : ℤ} → r ≡ hold (to_z w64 (of_z w64 (op (to_z w64 (of_z w64 a)) (to_z w64 (of_z w64 b))))) → to_z w32 (of_z w32 r) ≡ hold (op x y)
-  wide_held e = read (e ∙ ap hold (read same_operands (wide x y f g))) (hold_fits (op x y))
+  wide_held e = read {w = w32} (e ∙ ap hold (read {w = w64} same_operands (wide x y f g))) (hold_fits (op x y))
 
 -- ---- a constant word
 

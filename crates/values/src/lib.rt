@@ -1,5 +1,7 @@
 // The nine operations on values, which are i32: each answers what specs/Value.antt says.
 // Sums and differences are taken in i64, where they are exact, and then held at the ends.
+#![tactic(auto)]
+
 ghost use Rattle.std.specs.Prelude.{◌≡◌, ◌+ℤ◌, ◌-ℤ◌};
 ghost use Rattle.values.specs.Value as value;
 

@@ -5,14 +5,7 @@ use Prim.Native.Nat.{◌^◌}
 use mathlib.Core.Path.{◌∙◌}
 use lib.Dec.{lit<}
 use lib.Pow.{shl_exact}
-use Rattle.bits.proofs.single.Statement.{statement}
-use Rattle.bits.proofs.single.Tie as tie
+use Rattle.bits.proofs.single.Goals as goal
 
-shl-result : tie.Need-overflow-shl-result
-shl-result c = search rules
-
-returns : tie.Need-returns
+pub returns : goal.returns
 returns c = shl_exact 1 c.args.i 64 (lit< tt) (search rules) ∙ one-mul (2 ^ c.args.i)
-
-pub single-spec : {M : Type 1} → statement M
-single-spec = tie.close (tie.spec shl-result returns)
