@@ -1,0 +1,12 @@
+-- `access::defining_set` meets its contract. After i turns the set holds the defining occurrences of the positions up to i: on the left what is not
+-- inherited, on the right the masks, which fit their blocks. Assumes nothing.
+use Prim.Native.Nat.{◌-◌}
+use Rattle.access.specs.ByPlace.{defining_from}
+use Rattle.access.proofs.Blocks.{Filled}
+use Rattle.access.proofs.defining_set.Given as goal
+
+abbrev pub invariant-loop-i : goal.invariant-loop-i
+invariant-loop-i l = Filled (defining_from l.words l.p) l.n l.i l.set
+
+abbrev pub decreases-loop-i : goal.decreases-loop-i
+decreases-loop-i l = l.n - l.i
