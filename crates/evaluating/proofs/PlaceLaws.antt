@@ -25,7 +25,7 @@ use Rattle.evaluating.specs.FunctionPlaces.{operation_at, argument_at, arguments
 -- ---- a value in the machine is read back whole
 
 pub kept : {r z : ℤ} → mag r < 2 ^ 31 → r ≡ z → to_z w32 (of_z w32 r) ≡ z
-kept h e = to_z-of_z (record { sfits = h }) ∙ e
+kept h e = to_z-of_z {w = w32} (record { sfits = h }) ∙ e
 
 -- a cell, from the node at the occurrence's position
 pub cell_from : (t : List ℕ) (n o m : ℕ) → m ≡ node_at t n (position o) → 8 * m + o % 8 ≡ cell t n o
