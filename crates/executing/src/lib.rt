@@ -117,7 +117,7 @@ fn compute(words: &[u16], f: usize, tree: &[u16], values: &mut [i32], n: usize, 
 }
 
 // The node on top of the stack, its rule, and the plan's word at which it is.
-#[derive(Drop)]
+#[derive(Clone, Copy)]
 struct Top {
     n: usize,
     r: usize,

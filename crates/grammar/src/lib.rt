@@ -15,7 +15,7 @@ pub const RULE_WORDS: usize = 112;
 // Where each rule of a table starts, by its number.
 pub type Offsets = [u16; MOST_RULES];
 
-#[derive(Drop)]
+#[derive(Clone, Copy)]
 pub enum Verdict {
     Good,
     Refused(Refusal),

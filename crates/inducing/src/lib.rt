@@ -25,7 +25,7 @@ ghost use Rattle.inducing.specs.Arcs as said;
 use grammar::{Offsets, ROWS};
 
 // Where a cycle lies: the rule and the occurrence.
-#[derive(Drop)]
+#[derive(Clone, Copy)]
 pub enum Cycle {
     At(usize, usize),
     Nothing,

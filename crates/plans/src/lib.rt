@@ -3,7 +3,7 @@
 
 use refusals::Refusal;
 
-#[derive(Drop)]
+#[derive(Clone, Copy)]
 pub enum Planned {
     // The words of the plan.
     Accepted(usize),

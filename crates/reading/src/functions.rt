@@ -172,7 +172,7 @@ fn word_by_word(words: &[u16], f: usize, occurrences: u64, undefined: u64) -> Ve
 }
 
 // What reading a function hands on: how many words it has.
-#[derive(Drop)]
+#[derive(Clone, Copy)]
 struct Function {
     verdict: Verdict,
     words: usize,
@@ -203,7 +203,7 @@ fn function_fault(words: &[u16], f: usize, occurrences: u64, undefined: u64) -> 
 }
 
 // What reading a rule hands on: where the next one starts, and the defining occurrences that got no function.
-#[derive(Drop)]
+#[derive(Clone, Copy)]
 pub struct Rule {
     pub verdict: Verdict,
     pub next: usize,

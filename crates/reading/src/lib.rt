@@ -19,7 +19,7 @@ mod symbols;
 mod words;
 
 // The verdict on a table, and the word at which each of its rules starts.
-#[derive(Drop)]
+#[derive(Clone, Copy)]
 pub struct Reading {
     pub verdict: Verdict,
     pub offsets: Offsets,

@@ -17,7 +17,7 @@ pub type ByVisit = [u64; 96];
 
 // The actions that are left, as bits: a compute by its occurrence, visit n of child i as 8i + (n - 1), leave n as n - 1.
 // An occurrence waits while an action that makes it available is left; wanted is what the next visit of each child takes along.
-#[derive(Drop)]
+#[derive(Clone, Copy)]
 pub struct State {
     pub computes: u64,
     pub visits: u64,
@@ -27,7 +27,7 @@ pub struct State {
 }
 
 // An action, and what is left after it.
-#[derive(Drop)]
+#[derive(Clone, Copy)]
 pub struct Step {
     pub action: usize,
     pub state: State,

@@ -3,7 +3,7 @@
 
 use refusals::Refusal;
 
-#[derive(Drop)]
+#[derive(Clone, Copy)]
 pub enum Ran {
     // The actions that the whole run took.
     Done(u32),
@@ -12,7 +12,7 @@ pub enum Ran {
     Refused(Refusal),
 }
 
-#[derive(Drop)]
+#[derive(Clone, Copy)]
 pub struct Report {
     pub ran: Ran,
 }

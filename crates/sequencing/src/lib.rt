@@ -39,7 +39,7 @@ fn unblocked(rows: &[u64], base: usize, waiting: u64, computes: u64) -> u64
 }
 
 // An action with what is left after it, and the computes that are ready then.
-#[derive(Drop)]
+#[derive(Clone, Copy)]
 struct Turn {
     step: Step,
     ready: u64,

@@ -1,0 +1,14 @@
+-- `checking::nodes_fault` meets its contract: the walk goes on past every node without a fault, so the first fault is the one that is answered.
+-- Assumes nothing.
+use Prim.Native.Nat.{◌≤◌, ◌-◌}
+use mathlib.Core.Path.{◌≡◌}
+use Rattle.grammar.specs.Verdicts.{each}
+use Rattle.grammar.specs.declared.Verdict.TheVariants.{Good}
+use Rattle.trees.specs.Checking.{node_fault}
+use Rattle.checking.proofs.nodes_fault.Given as goal
+
+abbrev pub invariant-loop-n : goal.invariant-loop-n
+invariant-loop-n l = (l.n ≤ l.nodes) × (each l.n (λ m. node_fault l.words l.t m) ≡ Good)
+
+abbrev pub decreases-loop-n : goal.decreases-loop-n
+decreases-loop-n l = l.nodes - l.n

@@ -1,0 +1,30 @@
+-- `sequencing::words_of` meets its contract. After j turns the first j actions of the sequence are written, and the construction over what is
+-- left gives the others. The ones of the three sets count the turns. Assumes nothing.
+use borrow.Author.Rules.{rules}
+use Rattle.sequencing.proofs.WritingLaws.{shaped_given, writing_start, writing_left, writing_turn, writing_finish}
+use Rattle.sequencing.proofs.GivenLaws.{place_small, tabled_given, rows_ready}
+use Rattle.sequencing.proofs.words_of.Goals as goal
+
+pub start-state-requires-clause-p_bound : goal.start-state-requires-clause-p_bound
+start-state-requires-clause-p_bound c = search place_small
+
+pub start-state-requires-clause-shaped : goal.start-state-requires-clause-shaped
+start-state-requires-clause-shaped c = search shaped_given
+
+pub start-state-requires-clause-tabled : goal.start-state-requires-clause-tabled
+start-state-requires-clause-tabled c = search tabled_given
+
+pub unblocked-ready-requires : goal.unblocked-ready-requires
+unblocked-ready-requires c = search rows_ready
+
+pub loop-j-init : goal.loop-j-init
+loop-j-init c = search writing_start
+
+pub next-turn-requires-clause-in_bounds : goal.next-turn-requires-clause-in_bounds
+next-turn-requires-clause-in_bounds c = search (writing_left, rules)
+
+pub loop-j-preserved : goal.loop-j-preserved
+loop-j-preserved c = search (writing_turn, rules)
+
+pub returns : goal.returns
+returns c = search (writing_finish, rules)

@@ -1,0 +1,12 @@
+-- `sequencing::words_of` meets its contract. After j turns the first j actions of the sequence are written, and the construction over what is
+-- left gives the others. The ones of the three sets count the turns. Assumes nothing.
+use Prim.Native.Nat.{◌-◌}
+use Rattle.sequencing.proofs.WritingLaws.{Writing}
+use Rattle.sequencing.specs.Given.{set_words}
+use Rattle.sequencing.proofs.words_of.Given as goal
+
+abbrev pub invariant-loop-j : goal.invariant-loop-j
+invariant-loop-j l = Writing l.words (set_words l.words) l.by l.rows l.p l.r l.n l.block l.state.computes l.state.visits l.state.leaves l.state.waiting l.state.wanted l.ready l.j
+
+abbrev pub decreases-loop-j : goal.decreases-loop-j
+decreases-loop-j l = l.n - l.j
