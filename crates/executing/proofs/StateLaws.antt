@@ -55,7 +55,7 @@ pub places_length : (t stack marks places : List ℕ) (depth : ℕ) → length (
 unfolding places_of
 places_length t stack marks places zero = refl
 places_length t stack marks places (suc depth) =
-    places_length t stack marks _ depth
+    places_length t stack marks (set places (word stack depth) (relative t (word stack depth) (word marks depth))) depth
     ∙ length-set places (word stack depth) (relative t (word stack depth) (word marks depth))
 
 -- a node that is not on the stack keeps the place that is written for it
@@ -79,7 +79,7 @@ places_above : (t stack marks xs : List ℕ) (i a b depth : ℕ) → depth ≤ i
 unfolding places_of
 places_above t stack marks xs i a b zero h = refl
 places_above t stack marks xs i a b (suc depth) h =
-    places_above t stack marks _ i a b depth (omega arith)
+    places_above t stack marks (set xs (word (set stack i a) depth) (relative t (word (set stack i a) depth) (word (set marks i b) depth))) i a b depth (omega arith)
     ∙ ap₂ (λ (m q : ℕ). places_of t stack marks (set xs m (relative t m q)) depth) (get_or-set_other stack i depth a 0 (λ e. omega arith))
     (get_or-set_other marks i depth b 0 (λ e. omega arith))
 

@@ -1,7 +1,7 @@
 -- `sequencing::next` meets its contract. Each of the three sets has exactly the actions of its kind that are ready, and some action always is: so the
 -- lowest member of the first set that is not empty is the lowest ready action. Assumes nothing.
 use borrow.Author.Rules.{rules}
-use Rattle.sequencing.proofs.GivenLaws.{place_small, left_low, rows_room, rows_closed, rows_ready}
+use Rattle.sequencing.proofs.GivenLaws.{place_small, left_low, rows_room, rows_closed}
 use Rattle.sequencing.proofs.NextLaws.{
   along_kept,
   along_next,
@@ -34,8 +34,11 @@ visit-visited-requires-clause-p_bound c = (search place_small, (search rules, se
 pub visit-visited-requires-clause-b_bound : goal.visit-visited-requires-clause-b_bound
 visit-visited-requires-clause-b_bound c = search visit_child
 
-pub unblocked-requires : goal.unblocked-requires
-unblocked-requires c = search rows_ready
+pub unblocked-requires-clause-most_occurrences_in_bounds : goal.unblocked-requires-clause-most_occurrences_in_bounds
+unblocked-requires-clause-most_occurrences_in_bounds c = search rows_room
+
+pub unblocked-requires-clause-rows_closed : goal.unblocked-requires-clause-rows_closed
+unblocked-requires-clause-rows_closed c = search rows_closed
 
 pub returns-then-visits-ne0-clause-taken : goal.returns-then-visits-ne0-clause-taken
 returns-then-visits-ne0-clause-taken c = search (next_visit, rules)
@@ -58,8 +61,11 @@ leave-left-requires-clause-p_bound c = (search place_small, search leave_inside)
 pub leave-left-requires-clause-p_bound_2 : goal.leave-left-requires-clause-p_bound_2
 leave-left-requires-clause-p_bound_2 c = search left_low
 
-pub unblocked-requires-2 : goal.unblocked-requires-2
-unblocked-requires-2 c = search rows_ready
+pub unblocked-requires-2-clause-most_occurrences_in_bounds : goal.unblocked-requires-2-clause-most_occurrences_in_bounds
+unblocked-requires-2-clause-most_occurrences_in_bounds c = search rows_room
+
+pub unblocked-requires-2-clause-rows_closed : goal.unblocked-requires-2-clause-rows_closed
+unblocked-requires-2-clause-rows_closed c = search rows_closed
 
 pub returns-clause-taken : goal.returns-clause-taken
 returns-clause-taken c = search (next_leave, rules)

@@ -2,7 +2,7 @@
 -- left gives the others. The ones of the three sets count the turns. Assumes nothing.
 use borrow.Author.Rules.{rules}
 use Rattle.sequencing.proofs.WritingLaws.{shaped_given, writing_start, writing_left, writing_turn, writing_finish}
-use Rattle.sequencing.proofs.GivenLaws.{place_small, tabled_given, rows_ready}
+use Rattle.sequencing.proofs.GivenLaws.{place_small, tabled_given, rows_room, rows_closed}
 use Rattle.sequencing.proofs.words_of.Goals as goal
 
 pub start-state-requires-clause-p_bound : goal.start-state-requires-clause-p_bound
@@ -14,8 +14,11 @@ start-state-requires-clause-shaped c = search shaped_given
 pub start-state-requires-clause-tabled : goal.start-state-requires-clause-tabled
 start-state-requires-clause-tabled c = search tabled_given
 
-pub unblocked-ready-requires : goal.unblocked-ready-requires
-unblocked-ready-requires c = search rows_ready
+pub unblocked-ready-requires-clause-most_occurrences_in_bounds : goal.unblocked-ready-requires-clause-most_occurrences_in_bounds
+unblocked-ready-requires-clause-most_occurrences_in_bounds c = search rows_room
+
+pub unblocked-ready-requires-clause-rows_closed : goal.unblocked-ready-requires-clause-rows_closed
+unblocked-ready-requires-clause-rows_closed c = search rows_closed
 
 pub loop-j-init : goal.loop-j-init
 loop-j-init c = search writing_start

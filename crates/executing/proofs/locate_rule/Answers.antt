@@ -1,0 +1,23 @@
+-- `executing::locate_rule` meets its contract. The invariant Locating: the functions before k are noted at their targets, the next starts at f, and the
+-- words of the rules before stay. Targets of one rule differ, so none is written over. Assumes nothing.
+use borrow.Author.Rules.{rules}
+use Rattle.executing.proofs.LocatedLaws.{rule_starts, locating_start, target_small_law, locating_turn, locating_finish}
+use Rattle.executing.proofs.locate_rule.Goals as goal
+
+pub first_function-f-requires : goal.first_function-f-requires
+first_function-f-requires c = search rule_starts
+
+pub function_count-k-end-requires : goal.function_count-k-end-requires
+function_count-k-end-requires c = search rule_starts
+
+pub loop-k-init : goal.loop-k-init
+loop-k-init c = search locating_start
+
+pub note-requires-clause-r_lt_most_rules : goal.note-requires-clause-r_lt_most_rules
+note-requires-clause-r_lt_most_rules c = (search rules, (search target_small_law, search rules))
+
+pub loop-k-preserved : goal.loop-k-preserved
+loop-k-preserved c = search locating_turn
+
+pub returns : goal.returns
+returns c = search locating_finish
