@@ -136,7 +136,7 @@ demand_3_sound g p t v budget formed sound none =
       only_ones = run.run_only g p t v good sound tree budget;
       as_many = run.run_length g p t v good sound tree budget;
       others = run.run_others g p t v good sound tree budget;
-      stack_bound = run.stack_bound g p t v good sound tree;
+      stack_bound = run.stack_bound_law g p t v good sound tree;
     }
 
 module _ (g rows plan t : List ℕ) (v : List ℤ) (budget : ℕ) where
