@@ -1,30 +1,37 @@
 // Lists the plan of the table on standard input, or says why there is none.
 #![tactic(auto)]
 
-use libc::{STDERR_FILENO, STDIN_FILENO, STDOUT_FILENO};
-use lister::{LENT_BYTES, MOST_BYTES};
+ghost use Rattle.std.specs.Prelude.{◌≤◌, length, IfOk};
 
-// A short count of bytes is the whole input only where nothing more can be read and no read fails.
-fn at_end() -> bool {
-    let mut more = [0u8; 1];
-    libc::read(STDIN_FILENO, &mut more) == 0
+use lister::{LENT_BYTES, MOST_BYTES};
+use std::io;
+use std::io::Read;
+
+// Fills the buffer from its start until it is full or the input ends, and answers how many bytes it then has.
+fn read_full(input: &mut impl Read, buf: &mut [u8]) -> io::Result<usize>
+    ensures { IfOk result (λ n. n ≤ length buf.new) }
+{
+    let mut done = 0;
+    while done < buf.len() {
+        let n = input.read(&mut buf[done..])?;
+        if n == 0 {
+            break;
+        }
+        done += n;
+    }
+    Ok(done)
 }
 
-fn main() {
-    let mut input = io::large_buffer();
+// Nothing can be said where standard error cannot be written.
+fn main(rt: HostRuntime) {
+    let mut input = [0u8; MOST_BYTES];
     let mut out = [0u8; LENT_BYTES];
-    let n = io::read_full(STDIN_FILENO, &mut input);
-    if n < MOST_BYTES {
-        if !at_end() {
-            io::write_all(STDERR_FILENO, b"listing: standard input cannot be read\n");
-            return;
-        }
-    }
+    let Ok(n) = read_full(&mut rt.stdin(), &mut input) else {
+        let _ = eprintln!(rt; "listing: standard input cannot be read");
+        return;
+    };
     let shown = lister::list(&input[..n], &mut out);
-    if !io::write_all(STDOUT_FILENO, &out[..shown]) {
-        io::write_all(
-            STDERR_FILENO,
-            b"listing: standard output cannot be written\n",
-        );
+    if rt.write_all(&out[..shown]).is_err() {
+        let _ = eprintln!(rt; "listing: standard output cannot be written");
     }
 }

@@ -3,19 +3,18 @@
 
 ghost use Rattle.std.specs.Prelude.{◌≡◌, nat_abs};
 
-use libc::STDOUT_FILENO;
 use refusals::Refusal;
 use runs::{Ran, Report};
+use std::io;
 
 // A word as it stands.
-pub fn word(text: &[u8]) {
-    io::write_all(STDOUT_FILENO, text);
+pub fn word(rt: &impl Print, text: &[u8]) -> io::Result<()> {
+    rt.write_all(text)
 }
 
 // A blank and a number.
-pub fn number(n: u64) {
-    word(b" ");
-    io::print_decimal(STDOUT_FILENO, n);
+pub fn number(rt: &impl Print, n: u64) -> io::Result<()> {
+    print!(rt; " {n}")
 }
 
 // A value without its sign.
@@ -30,39 +29,38 @@ fn magnitude(v: i32) -> u64
 }
 
 // A blank and a value.
-pub fn value(v: i32) {
+pub fn value(rt: &impl Print, v: i32) -> io::Result<()> {
     if v < 0 {
-        word(b" -");
-        io::print_decimal(STDOUT_FILENO, magnitude(v));
-        return;
+        let n = magnitude(v);
+        return print!(rt; " -{n}");
     }
-    number(magnitude(v));
+    number(rt, magnitude(v))
 }
 
-pub fn end_line() {
-    word(b"\n");
+pub fn end_line(rt: &impl Print) -> io::Result<()> {
+    word(rt, b"\n")
 }
 
 // A refusal by document 01's number, place and second place.
-fn refusal(r: Refusal) {
-    word(b"refused");
-    number(refusals::number(r) as u64);
-    number(refusals::place(r) as u64);
-    number(refusals::second_place(r) as u64);
+fn refusal(rt: &impl Print, r: Refusal) -> io::Result<()> {
+    word(rt, b"refused")?;
+    number(rt, refusals::number(r) as u64)?;
+    number(rt, refusals::place(r) as u64)?;
+    number(rt, refusals::second_place(r) as u64)
 }
 
 // What a run answered.
-pub fn answer(report: Report) {
+pub fn answer(rt: &impl Print, report: Report) -> io::Result<()> {
     let ran = report.ran;
     match ran {
         Ran::Done(count) => {
-            word(b"done");
-            number(count as u64);
+            word(rt, b"done")?;
+            number(rt, count as u64)
         }
         Ran::Stopped(budget) => {
-            word(b"stopped");
-            number(budget as u64);
+            word(rt, b"stopped")?;
+            number(rt, budget as u64)
         }
-        Ran::Refused(r) => refusal(r),
+        Ran::Refused(r) => refusal(rt, r),
     }
 }

@@ -5,6 +5,7 @@ ghost use Rattle.std.specs.Prelude.{◌≤◌, ◌<◌, ◌≡◌, length};
 ghost use Rattle.refused_trees.specs.Changed as counts;
 
 use samples::{G, TWO_LINES};
+use std::io;
 
 // What stands in the buffers before: no value, row or plan word of this grammar is the same.
 const VALUE: i32 = 9;
@@ -61,7 +62,13 @@ fn words_changed(plan: &[u16]) -> u64
 }
 
 // A run over the first words of this tree with the first of these values; rows and plan have room to spare.
-fn run_part(tree: &[u16], words: usize, values: &mut [i32], room: usize)
+fn run_part(
+    rt: &impl Print,
+    tree: &[u16],
+    words: usize,
+    values: &mut [i32],
+    room: usize,
+) -> io::Result<()>
     requires { (words ≤ length tree.now) × (room ≤ length values.old) }
 {
     let mut rows = [ROW; 200];
@@ -74,39 +81,40 @@ fn run_part(tree: &[u16], words: usize, values: &mut [i32], room: usize)
         &mut values[..room],
         100,
     );
-    printing::answer(report);
-    printing::word(b" values");
-    printing::number(values_changed(values));
-    printing::word(b" rows");
-    printing::number(rows_changed(&rows));
-    printing::word(b" plan");
-    printing::number(words_changed(&plan));
-    printing::end_line();
+    printing::answer(rt, report)?;
+    printing::word(rt, b" values")?;
+    printing::number(rt, values_changed(values))?;
+    printing::word(rt, b" rows")?;
+    printing::number(rt, rows_changed(&rows))?;
+    printing::word(rt, b" plan")?;
+    printing::number(rt, words_changed(&plan))?;
+    printing::end_line(rt)
 }
 
 // The tree of two lines with one word changed.
-fn damaged(at: usize, word: u16, words: usize, room: usize)
+fn damaged(rt: &impl Print, at: usize, word: u16, words: usize, room: usize) -> io::Result<()>
     requires { (at < 40) × ((words ≤ 40) × (room ≤ 40)) }
 {
     let mut tree = TWO_LINES;
     tree[at] = word;
     let mut values = [VALUE; 40];
-    run_part(&tree, words, &mut values, room);
+    run_part(rt, &tree, words, &mut values, room)
 }
 
-fn main() {
+fn main(rt: HostRuntime) -> io::Result<()> {
+    let rt = &rt;
     // 12: the tree ends within a node.
-    damaged(0, 0, 39, 40);
+    damaged(rt, 0, 0, 39, 40)?;
     // 13: node 3 has rule 3, and there are three rules.
-    damaged(24, 3, 40, 40);
+    damaged(rt, 24, 3, 40, 40)?;
     // 14: node 1 is its own child.
-    damaged(10, 1, 40, 40);
+    damaged(rt, 10, 1, 40, 40)?;
     // 15: the root has a rule of lines.
-    damaged(0, 2, 40, 40);
+    damaged(rt, 0, 2, 40, 40)?;
     // 16: node 1 has a line where lines should stand.
-    damaged(10, 2, 40, 40);
+    damaged(rt, 10, 2, 40, 40)?;
     // 17: node 1 takes the line of node 3, and nobody is left to take node 2.
-    damaged(9, 4, 40, 40);
+    damaged(rt, 9, 4, 40, 40)?;
     // 18: one value is missing.
-    damaged(0, 0, 40, 39);
+    damaged(rt, 0, 0, 40, 39)
 }

@@ -5,6 +5,7 @@ ghost use Rattle.std.specs.Prelude.{◌≡◌, ◌+◌, ◌*◌, ◌≤◌, ◌<
 ghost use Rattle.scenarios.specs.Nodes as nodes;
 
 use samples::{G, TWO_LINES};
+use std::io;
 
 // A chain in which each node tells the next how deep it is, and the depth of the last goes up to the root:
 // Z to A, A to A, A to nothing; A has the depth found below, its own depth, and 1 to add.
@@ -17,56 +18,57 @@ const CHAIN: [u16; 42] = [
 const BEFORE: i32 = 9;
 
 // The values of the first attributes of node n.
-fn print_node(values: &[i32], n: usize, attributes: usize)
+fn print_node(rt: &impl Print, values: &[i32], n: usize, attributes: usize) -> io::Result<()>
     requires { (n < 1024) × ((attributes < 8) × (8 * n + 8 ≤ length values.now)) }
 {
     for a in 0..attributes {
-        printing::value(values[8 * n + a]);
+        printing::value(rt, values[8 * n + a])?;
     }
+    Ok(())
 }
 
 // The values of the tree of two lines, node by node.
-fn print_two_lines(values: &[i32])
+fn print_two_lines(rt: &impl Print, values: &[i32]) -> io::Result<()>
     requires { length values.now ≡ 40 }
 {
-    printing::word(b" values");
-    print_node(values, 0, 1);
-    print_node(values, 1, 3);
-    print_node(values, 2, 1);
-    print_node(values, 3, 3);
-    print_node(values, 4, 1);
+    printing::word(rt, b" values")?;
+    print_node(rt, values, 0, 1)?;
+    print_node(rt, values, 1, 3)?;
+    print_node(rt, values, 2, 1)?;
+    print_node(rt, values, 3, 3)?;
+    print_node(rt, values, 4, 1)
 }
 
 // The tree of two lines with these priorities, for at most budget actions.
-fn run_two_lines(first: i32, second: i32, budget: u32) {
+fn run_two_lines(rt: &impl Print, first: i32, second: i32, budget: u32) -> io::Result<()> {
     let mut rows = [0u64; 192];
     let mut plan = [0u16; 592];
     let mut values = [BEFORE; 40];
     values[16] = first;
     values[32] = second;
     let report = runner::run(&G, &mut rows, &mut plan, &TWO_LINES, &mut values, budget);
-    printing::word(b"budget");
-    printing::number(budget as u64);
-    printing::word(b" ");
-    printing::answer(report);
-    print_two_lines(&values);
-    printing::end_line();
+    printing::word(rt, b"budget")?;
+    printing::number(rt, budget as u64)?;
+    printing::word(rt, b" ")?;
+    printing::answer(rt, report)?;
+    print_two_lines(rt, &values)?;
+    printing::end_line(rt)
 }
 
-fn print_priorities(first: i32, second: i32) {
-    printing::word(b"priorities");
-    printing::value(first);
-    printing::value(second);
-    printing::end_line();
+fn print_priorities(rt: &impl Print, first: i32, second: i32) -> io::Result<()> {
+    printing::word(rt, b"priorities")?;
+    printing::value(rt, first)?;
+    printing::value(rt, second)?;
+    printing::end_line(rt)
 }
 
 // Every budget up to one more than the run takes, and the largest.
-fn every_budget(first: i32, second: i32) {
-    print_priorities(first, second);
+fn every_budget(rt: &impl Print, first: i32, second: i32) -> io::Result<()> {
+    print_priorities(rt, first, second)?;
     for budget in 0..18u32 {
-        run_two_lines(first, second, budget);
+        run_two_lines(rt, first, second, budget)?;
     }
-    run_two_lines(first, second, 4294967295);
+    run_two_lines(rt, first, second, 4294967295)
 }
 
 // Node n of a tree: its first word and two children, 0 where it has none.
@@ -114,17 +116,24 @@ fn long_chain(tree: &mut [u16; 8192])
 }
 
 // The root's value, and those of node 1 and of a node far down.
-fn print_ends(values: &[i32], last: usize)
+fn print_ends(rt: &impl Print, values: &[i32], last: usize) -> io::Result<()>
     requires { (last < 1024) × (length values.now ≡ 8192) }
 {
-    printing::word(b" values");
-    print_node(values, 0, 1);
-    print_node(values, 1, 3);
-    print_node(values, last, 3);
+    printing::word(rt, b" values")?;
+    print_node(rt, values, 0, 1)?;
+    print_node(rt, values, 1, 3)?;
+    print_node(rt, values, last, 3)
 }
 
 // The tree of the first nodes of a large one, for at most budget actions. Every line has priority 4, but that at node 512 has 7.
-fn run_large(words: &[u16], tree: &[u16], nodes: usize, last: usize, budget: u32)
+fn run_large(
+    rt: &impl Print,
+    words: &[u16],
+    tree: &[u16],
+    nodes: usize,
+    last: usize,
+    budget: u32,
+) -> io::Result<()>
     requires nodes_bound { (nodes ≤ 1024) × (last < 1024) }
     requires tree_len { length tree.now ≡ 8192 }
 {
@@ -141,31 +150,32 @@ fn run_large(words: &[u16], tree: &[u16], nodes: usize, last: usize, budget: u32
         &mut values,
         budget,
     );
-    printing::word(b"nodes");
-    printing::number(nodes as u64);
-    printing::word(b" ");
-    printing::answer(report);
-    print_ends(&values, last);
-    printing::end_line();
+    printing::word(rt, b"nodes")?;
+    printing::number(rt, nodes as u64)?;
+    printing::word(rt, b" ")?;
+    printing::answer(rt, report)?;
+    print_ends(rt, &values, last)?;
+    printing::end_line(rt)
 }
 
-fn large_trees() {
+fn large_trees(rt: &impl Print) -> io::Result<()> {
     let mut tree = [0u16; 8192];
     many_lines(&mut tree);
-    run_large(&G, &tree, 1023, 1021, 3578);
-    run_large(&G, &tree, 1023, 1021, 4294967295);
+    run_large(rt, &G, &tree, 1023, 1021, 3578)?;
+    run_large(rt, &G, &tree, 1023, 1021, 4294967295)
 }
 
-fn deep_trees() {
+fn deep_trees(rt: &impl Print) -> io::Result<()> {
     let mut tree = [0u16; 8192];
     long_chain(&mut tree);
-    run_large(&CHAIN, &tree, 1024, 1023, 5116);
-    run_large(&CHAIN, &tree, 1024, 1023, 4294967295);
+    run_large(rt, &CHAIN, &tree, 1024, 1023, 5116)?;
+    run_large(rt, &CHAIN, &tree, 1024, 1023, 4294967295)
 }
 
-fn main() {
-    every_budget(3, 5);
-    every_budget(3, 2);
-    large_trees();
-    deep_trees();
+fn main(rt: HostRuntime) -> io::Result<()> {
+    let rt = &rt;
+    every_budget(rt, 3, 5)?;
+    every_budget(rt, 3, 2)?;
+    large_trees(rt)?;
+    deep_trees(rt)
 }
