@@ -7,24 +7,18 @@ use mir.Syntax.{w32}
 use mir.Val.{SFits, to_z, of_z}
 use mir.Facts.{to_z-of_z}
 use Rattle.refused_trees.specs.Changed.{other_value}
-use Rattle.refused_trees.proofs.other_value.Statement.{statement}
-use Rattle.refused_trees.proofs.other_value.Tie as tie
+use Rattle.refused_trees.proofs.other_value.Goals as goal
 
 below : {z : ℤ} {b : Bool} → SFits w32 z → lt_z (to_z w32 (of_z w32 z)) (pos 9) ≡ b → b ≡ lt_z z (pos 9)
 below f e = sym e ∙ ap (λ (v : ℤ). lt_z v (pos 9)) (to_z-of_z f)
 
-returns : tie.Need-returns
+pub returns-then-v-lt-VALUE : goal.returns-then-v-lt-VALUE
 unfolding other_value
-returns c =
-    let v = c.before.args.v in
-    ap (λ (b : Bool). cond b true (lt_z (pos 9) v)) (below c.before.ranges.v c.if1.true)
+returns-then-v-lt-VALUE c = let v = c.args.v in
+    ap (λ (b : Bool). cond b true (lt_z (pos 9) v)) (below c.ranges.v c.if-v-lt-VALUE.true)
 
-returns-2 : tie.Need-returns-2
+pub returns : goal.returns
 unfolding other_value
-returns-2 c =
-    let v = c.before.args.v in
-    ap (λ (z : ℤ). lt_z (pos 9) z) (to_z-of_z c.before.ranges.v)
-    ∙ ap (λ (b : Bool). cond b true (lt_z (pos 9) v)) (below c.before.ranges.v c.if1.false)
-
-pub other-value-spec : {M : Type 1} → statement M
-other-value-spec = tie.close (tie.spec returns returns-2)
+returns c = let v = c.args.v in
+    ap (λ (z : ℤ). lt_z (pos 9) z) (to_z-of_z c.ranges.v)
+    ∙ ap (λ (b : Bool). cond b true (lt_z (pos 9) v)) (below c.ranges.v c.if-v-lt-VALUE.false)

@@ -1,0 +1,12 @@
+-- `refused_trees::words_changed` is safe: the count never passes the index, which never passes the slice's end. Assumes nothing.
+use Prim.Native.Nat.{◌-◌}
+use mathlib.Core.Path.{◌≡◌}
+use lib.ListN.{length}
+use Rattle.refused_trees.specs.Changed.{Counted, other}
+use Rattle.refused_trees.proofs.words_changed.Given as goal
+
+abbrev pub invariant-loop-i : goal.invariant-loop-i
+invariant-loop-i l = (l.i-end ≡ length l.plan) × Counted (λ j. other l.plan 65535 j) l.i-end l.count l.i
+
+abbrev pub decreases-loop-i : goal.decreases-loop-i
+decreases-loop-i l = l.i-end - l.i
