@@ -11,13 +11,13 @@ use lib.Dec.{T, ltb, leb, eqb, eqb→eq, lt→ltb, leb→le}
 use lib.ListN.{get_or, set, length-set, replicate, length-replicate, get_or-replicate}
 use lib.Seq.{get_or-set_same, get_or-set_other}
 use borrow.Author.Tests.{le-ltb, eq-eqb, ne_eqb}
-use Rattle.basics.specs.Tests.{◌and◌, all, count}
+use Rattle.basics.specs.Tests.{◌and◌, count}
 use Rattle.basics.specs.Lists.{word}
 use Rattle.basics.proofs.CountingLaws.{count_up, count_find}
 use Rattle.basics.proofs.TestLaws.{same_or_not, below_or_not, below_suc, eq_T, true_T, false_T, chosen, passed_over, and_left, and_right, all_at, all_intro}
 use Rattle.refusals.specs.declared.Refusal.TheVariants.{ChildDiffers, NotOneParent}
 use Rattle.grammar.specs.declared.Verdict.TheVariants.{Good}
-use Rattle.grammar.specs.Table.{symbols, start, symbol_of}
+use Rattle.grammar.specs.Table.{start, symbol_of}
 use Rattle.grammar.specs.Verdicts.{unless}
 use Rattle.grammar.proofs.AcceptedTable.{accepted}
 use Rattle.grammar.proofs.VerdictLaws.{unless_passes, unless_good, each_at, each_good}

@@ -1,6 +1,6 @@
 -- What the arrays of a run hold between two actions, and what follows from it: a node is on top, so the total is not reached; it applies a rule, and its next
 -- action is one of that rule; and no node is on the stack twice, so the place of the node on top is its own. Assumes nothing.
-use Prim.Native.Nat.{ℕ, suc, ◌+◌, ◌*◌, ◌-◌, ◌≤◌, ◌<◌}
+use Prim.Native.Nat.{ℕ, suc, ◌+◌, ◌*◌, ◌≤◌, ◌<◌}
 use mathlib.Core.Path.{◌≡◌, refl, sym, ◌∙◌, ap, ap₂, subst, subst⁻¹}
 use mathlib.Core.List.{List, ◌∷◌}
 use native.Mathlib.Omega.{arith}
@@ -24,7 +24,6 @@ use Rattle.trees.specs.Tree.{nodes, rule_of, applies_rule, cell}
 use Rattle.trees.proofs.Cells.{cell_inside}
 use Rattle.evaluating.specs.FunctionPlaces.{Valued}
 use Rattle.evaluating.proofs.ValuedLaws.{function_valued}
-use Rattle.runs.specs.declared.Ran as R
 use Rattle.grammar.specs.Limits.{most_occurrences, rule_words, plan_words}
 use Rattle.plans.specs.Sequences.{sequence_at, action_at}
 use Rattle.runs.specs.Automaton.{Machine, function_for, act, step, after}

@@ -18,7 +18,7 @@ use Rattle.trees.specs.Tree.{nodes, rule_of, child, cell}
 use Rattle.evaluating.proofs.PlaceLaws.{by_number}
 use Rattle.runs.specs.declared.Ran as R
 use Rattle.plans.specs.Sequences.{sequence_at, action_at}
-use Rattle.runs.specs.Automaton.{Machine, function_for, computed, act, after}
+use Rattle.runs.specs.Automaton.{Machine, function_for, computed, act}
 use Rattle.runs.specs.Totals.{total}
 use Rattle.runs.specs.Run.{ran}
 use Rattle.runs.specs.Computing.{machine_at}

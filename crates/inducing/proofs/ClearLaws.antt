@@ -1,6 +1,6 @@
 -- Words that are cleared one after the other, and lists of zeros.
 -- Assumes nothing.
-use Prim.Native.Nat.{ℕ, zero, ◌+◌, ◌*◌, ◌≤◌, ◌<◌}
+use Prim.Native.Nat.{ℕ, ◌+◌, ◌*◌, ◌≤◌, ◌<◌}
 use mathlib.Core.Path.{◌≡◌, refl, ◌∙◌, subst, subst⁻¹}
 use mathlib.Core.Logic.{⊎_elim}
 use mathlib.Core.List.{List}

@@ -1,6 +1,6 @@
 -- What planning knows at each of its stages, and what it answers and leaves by how far it came.
 -- For proofs of the code: no demand rests on it. Assumes nothing.
-use Rattle.std.specs.Prelude.{ℕ, ◌+◌, ◌*◌, ◌≤◌, ◌≡◌, false, List, length}
+use Rattle.std.specs.Prelude.{ℕ, ◌≤◌, ◌≡◌, false, List, length}
 use Rattle.basics.specs.Lists.{padded}
 use Rattle.grammar.specs.declared.Verdict.{Verdict}
 use Rattle.grammar.specs.declared.Verdict.TheVariants.{Good}

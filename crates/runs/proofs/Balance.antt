@@ -14,7 +14,7 @@ use Rattle.grammar.specs.Table.{rules, nonterminal, symbol_of}
 use Rattle.sets.specs.Visits.{visits}
 use Rattle.sets.proofs.Visits.{some_visit}
 use Rattle.sequences.proofs.ActionLaws.{ActionIs, action_is}
-use Rattle.trees.specs.Tree.{nodes, rule_of, applies_rule, child}
+use Rattle.trees.specs.Tree.{nodes, rule_of, applies_rule}
 use Rattle.trees.specs.Formed.{ChildOf, Parent}
 use Rattle.trees.proofs.AcceptedTree.{rule_symbol}
 use Rattle.trees.proofs.Cells.{applies_nonterminal}

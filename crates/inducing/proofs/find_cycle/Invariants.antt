@@ -2,7 +2,6 @@
 -- before it has no cycle, and no lower occurrence of its rule lies on one. The measures are the rules and the occurrences that are left.
 use Prim.Native.Nat.{◌≤◌, ◌-◌}
 use mathlib.Core.Path.{◌≡◌}
-use borrow.Author.Rules.{rules}
 use Rattle.inducing.specs.declared.Cycle.TheVariants.{Nothing}
 use Rattle.inducing.proofs.CycleLaws.{NoneBefore, RulesBefore}
 use Rattle.inducing.proofs.find_cycle.Given as goal

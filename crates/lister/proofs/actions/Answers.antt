@@ -1,5 +1,4 @@
 -- `lister::actions` meets its contract: the invariant is that the actions before j are typed. Assumes nothing.
-use Prim.Native.Nat.{◌-◌}
 use Rattle.lister.proofs.LineLaws.{numbers_start}
 use Rattle.lister.proofs.PlanLaws.{actions_turn, actions_end}
 use Rattle.lister.proofs.actions.Goals as goal

@@ -1,5 +1,4 @@
 -- `lister::copy` meets its contract: the invariant is that the bytes before i are typed. Assumes nothing.
-use Prim.Native.Nat.{◌-◌}
 use Rattle.lister.proofs.LineLaws.{copy_start, copy_turn, copy_end}
 use Rattle.lister.proofs.copy.Goals as goal
 

@@ -1,5 +1,4 @@
 -- `lister::little_endian` meets its contract: the invariant is that the first i words are written, each of its two bytes. Assumes nothing.
-use Prim.Native.Nat.{◌-◌}
 use Rattle.lister.proofs.TableLaws.{words_start, words_turn, words_end}
 use Rattle.lister.proofs.little_endian.Goals as goal
 

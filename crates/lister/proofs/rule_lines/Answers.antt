@@ -1,5 +1,4 @@
 -- `lister::rule_lines` meets its contract: the invariant is that the lines of the rules before r are typed. Assumes nothing.
-use Prim.Native.Nat.{◌-◌}
 use Rattle.lister.proofs.LineLaws.{blocks_start, blocks_turn, blocks_end}
 use Rattle.lister.proofs.rule_lines.Goals as goal
 

@@ -1,5 +1,4 @@
 -- `lister::set_numbers` meets its contract: the invariant is that the sets of the attributes before a are typed. Assumes nothing.
-use Prim.Native.Nat.{◌-◌}
 use Rattle.lister.proofs.LineLaws.{numbers_start}
 use Rattle.lister.proofs.PlanLaws.{sets_turn, sets_end}
 use Rattle.lister.proofs.set_numbers.Goals as goal

@@ -1,5 +1,4 @@
 -- `lister::symbol_lines` meets its contract: the invariant is that the lines of the symbols before x are typed. Assumes nothing.
-use Prim.Native.Nat.{◌-◌}
 use Rattle.lister.proofs.LineLaws.{blocks_start, blocks_turn, blocks_end}
 use Rattle.lister.proofs.symbol_lines.Goals as goal
 

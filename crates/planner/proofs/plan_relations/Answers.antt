@@ -2,7 +2,6 @@
 -- Assumes nothing.
 use Rattle.planner.proofs.RoomLaws.{rows_room}
 use Rattle.planner.proofs.StageLaws.{few_rules, search_room, nine_came, noncircular, noncircular_came}
-use borrow.Author.Rules.{rules}
 use Rattle.planner.proofs.plan_relations.Goals as goal
 
 pub induce-ids-requires-clause-words_in_bounds : goal.induce-ids-requires-clause-words_in_bounds

@@ -1,6 +1,5 @@
 -- `planner::write_plan` meets its contract: after r turns the set words and the sequences of the first r rules are written. Assumes nothing.
 use borrow.Author.Rules.{rules}
-use Prim.Native.Nat.{◌-◌}
 use Rattle.planner.proofs.WriteLaws.{write_room, by_symbols, by_few, plan_start, plan_rule, plan_given, plan_fits, plan_turn, plan_finish, plan_kept}
 use Rattle.planner.proofs.write_plan.Goals as goal
 

@@ -1,5 +1,4 @@
 -- `refused_trees::values_changed` counts value after value: the count never passes the index, which never passes the slice's end. Assumes nothing.
-use Prim.Native.Nat.{◌-◌}
 use mathlib.Core.Path.{refl, ◌∙◌, ap}
 use mir.Syntax.{w32}
 use mir.Facts.{to_z-of_z}

@@ -1,7 +1,6 @@
 -- `remaining::of_children` meets its contract. After i turns the set holds what is found of children 1 to i: each child has eight bits of its own,
 -- and the left side, which is no child, has none. Assumes nothing.
 use borrow.Author.Rules.{rules}
-use Prim.Native.Nat.{◌-◌}
 use Rattle.remaining.proofs.BlockSetLaws.{calling_start, calling_low, calling_block, calling_place, calling_turn, calling_finish}
 use Rattle.remaining.proofs.of_children.Goals as goal
 

@@ -3,7 +3,6 @@
 use native.Mathlib.Omega.{arith}
 use borrow.Author.Tests.{not-true, not-false}
 use borrow.Author.Rules.{rules}
-use Prim.Native.Nat.{◌-◌}
 use Rattle.checking.proofs.NodeTestLaws.{slots_none, slots_more, slots_stop, slots_end}
 use Rattle.checking.proofs.nodes.slots_fit.Goals as goal
 

@@ -1,7 +1,6 @@
 -- `checking::nodes::slots_match` meets its contract: the invariant says that the slots so far match; the first that does not settles the test of all.
 -- Assumes nothing.
 use borrow.Author.Rules.{rules}
-use Prim.Native.Nat.{◌-◌}
 use native.Mathlib.Omega.{arith}
 use borrow.Author.Tests.{not-true, not-false}
 use Rattle.checking.proofs.NodeTestLaws.{used_slot, children_none, children_more, children_stop, children_end}

@@ -1,6 +1,5 @@
 -- `checking::one_walk::write_children` meets its contract: the invariant WrittenTo says that the symbols of the slots so far are written down, each
 -- for a node above for which nothing was written; a slot that names no such node refuses. Assumes nothing.
-use Prim.Native.Nat.{◌-◌}
 use borrow.Author.Tests.{not-true, not-false}
 use Rattle.checking.proofs.OneWalkLaws.{write_start, write_on, write_place, write_there, write_fits, write_turn, write_end, write_refused, none_refused, never}
 use Rattle.checking.proofs.one_walk.write_children.Goals as goal
