@@ -1,6 +1,6 @@
 /* Plans document 01's table G and runs it over a tree of two lines, for two pairs of priorities.
-   At the repository's root, after rt staticlib exports:
-   gcc -Iexamples examples/plan_and_run.c target/staticlib/libexports.a -o plan_and_run */
+   At the repository's root, after rt lib in crates/exports:
+   gcc -Iexamples examples/plan_and_run.c crates/exports/out/libexports.a -o plan_and_run */
 #include <inttypes.h>
 #include <stdio.h>
 #include <string.h>

@@ -9,7 +9,7 @@ fail() { echo "build.sh: $*" >&2; exit 1; }
 tree="$folder/a tree"
 mkdir -p "$tree/bin" "$tree/tools" "$tree/command/src" "$tree/crates/one/src" "$tree/crates/two/must-fail" "$tree/crates/three" "$tree/crates/exports" "$tree/crates/listing"
 cp "$root/bin/build" "$root/bin/skarnuth" "$root/bin/list" "$root/bin/words" "$tree/bin/"
-printf '# crates\none:\ntwo: one\nthree:\nexports: two\nlisting: io one\n' > "$tree/crates.txt"
+printf '# crates\none:\ntwo: one\nthree:\nexports staticlib: two\nlisting: one\n' > "$tree/crates.txt"
 for file in VERSION command/Cargo.toml command/build.rs command/src/main.rs crates/one/src/lib.rt crates/two/lib.rt crates/two/must-fail/x.edit crates/three/lib.rt crates/exports/lib.rt crates/listing/main.rt; do
     echo "$file" > "$tree/$file"
 done
@@ -17,10 +17,10 @@ cat > "$tree/tools/rt" <<'RT'
 #!/bin/sh
 case $1 in
     version) echo kit ;;
-    staticlib) [ ! -f broken ] || { echo "error: not proved"; exit 1; }
-        echo staticlib >> calls; echo "rt: one proved (1 s)"; echo "fn one::f: proved"; echo "rt: two proved (unchanged since it was last proved)"
-        mkdir -p target/staticlib; cat crates/*/lib.rt crates/one/src/* > target/staticlib/libexports.a ;;
-    check) echo listing >> calls; echo "rt: one proved (1 s)"; echo "rt: listing proved (2 s)"; echo "rt: ok, 2 crates proved"; mkdir -p target/bin; echo listing > target/bin/listing ;;
+    lib) [ ! -f ../../broken ] || { echo "error: not proved"; exit 1; }
+        echo staticlib >> ../../calls; echo "crate one: modules loaded=1 checked=1"; echo "fn one::f: proved"; echo "crate two: modules loaded=1 checked=1"; echo "crate exports: modules loaded=1 checked=1"
+        mkdir -p out; cat ../*/lib.rt ../one/src/* > out/libexports.a ;;
+    run) echo listing >> ../../calls; echo "crate one: modules loaded=1 checked=1"; echo "crate listing: modules loaded=1 checked=1"; mkdir -p out; echo listing > out/listing ;;
 esac
 RT
 cat > "$tree/tools/cargo" <<'CARGO'
@@ -63,7 +63,7 @@ echo more >> crates/three/lib.rt; once; calls '' 'a crate that it does not rest 
 echo more >> crates/two/must-fail/x.edit; once; calls '' 'a must-fail edit'
 echo more >> command/src/main.rs; once; calls 'cargo ' 'the command alone'
 echo 1 > VERSION; once; calls 'cargo ' 'the version'
-rm -r target; once; calls '' 'the toolchain folder removed'
+rm -r crates/*/out; once; calls '' 'the toolchain folder removed'
 rm command/target/release/skarnuth; once; calls 'cargo ' 'the program removed'
 once all; calls 'listing ' 'the listing program'
 once all; calls '' 'all again'

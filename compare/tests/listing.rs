@@ -11,8 +11,8 @@ use std::process::{Command, Stdio};
 
 /// What the program writes on standard output and on standard error.
 fn listed(bytes: &[u8]) -> (String, String) {
-    let program = Path::new(env!("CARGO_MANIFEST_DIR")).join("../target/bin/listing");
-    assert!(program.exists(), "target/bin/listing is missing: run `rt check listing` at the repository's root first");
+    let program = Path::new(env!("CARGO_MANIFEST_DIR")).join("../crates/listing/out/listing");
+    assert!(program.exists(), "crates/listing/out/listing is missing: run `rt run` in crates/listing first");
     let mut child =
         Command::new(program).stdin(Stdio::piped()).stdout(Stdio::piped()).stderr(Stdio::piped()).spawn().expect("the program starts");
     let mut input = child.stdin.take().unwrap();
@@ -105,7 +105,7 @@ fn seeded_tables() {
 
 #[test]
 fn what_cannot_be_read() {
-    let program = Path::new(env!("CARGO_MANIFEST_DIR")).join("../target/bin/listing");
+    let program = Path::new(env!("CARGO_MANIFEST_DIR")).join("../crates/listing/out/listing");
     let folder = std::fs::File::open(env!("CARGO_MANIFEST_DIR")).unwrap();
     let out = Command::new(program).stdin(folder).output().unwrap();
     assert_eq!(String::from_utf8(out.stderr).unwrap(), "listing: standard input cannot be read\n");
