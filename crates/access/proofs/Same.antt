@@ -1,4 +1,4 @@
--- What is said by place is what grammar's definitions say by number: rule r starts at word ruleAt g r, and a set has a member where its test passes.
+-- What is said by place is what grammar's definitions say by number: rule r starts at word rule_at g r, and a set has a member where its test passes.
 -- Assumes nothing.
 use Prim.Native.Nat.{ℕ, zero, suc, ◌+◌, ◌^◌, ◌≤◌, ◌<◌}
 use mathlib.Core.Path.{◌≡◌, refl, sym, ◌∙◌, ap, ap₂, fun_ext}

@@ -14,7 +14,7 @@ unfoldable pub stack_of : List ℕ → ℕ → List ℕ
 stack_of xs zero = []
 stack_of xs (suc depth) = word xs depth ∷ stack_of xs depth
 
--- the place of node m at word q of the plan: the actions of its sequence stand from word sequenceAt r + 1 on
+-- the place of node m at word q of the plan: the actions of its sequence stand from word sequence_at r + 1 on
 abbrev pub relative : List ℕ → ℕ → ℕ → ℕ
 relative t m q = q - (sequence_at (rule_of t m) + 1)
 

@@ -4,7 +4,7 @@ use mathlib.Core.Path.{◌≡◌, refl, sym, ◌∙◌}
 use Prim.Native.Nat.{ℕ}
 use Rattle.refusals.specs.declared.Refusal.{Refusal}
 
--- f is numberOf, placeOf or secondOf
+-- f is number_of, place_of or second_of
 pub every_input : (f : Refusal → ℕ) (r : Refusal) → (n : ℕ) × (n ≡ f r)
 every_input f r = (f r, refl)
 
