@@ -8,7 +8,7 @@ use lib.ListN.{length, get_or, replicate, get_or-append}
 use Rattle.basics.specs.Lists.{tabulate, padded}
 use Rattle.basics.proofs.ListLaws.{length_tabulate, get_d_tabulate}
 use Rattle.bits.specs.Bit.{collect}
-use Rattle.grammar.specs.declared.Verdict.TheVariants.{Good}
+use Rattle.grammar.specs.Verdicts.{Good}
 use Rattle.grammar.specs.Limits.{most_rules, longest_table}
 use Rattle.grammar.specs.Table.{symbols, rules, function_at, rule_at, right_length, symbol_of, defining}
 use Rattle.grammar.specs.Reading.{read_table}

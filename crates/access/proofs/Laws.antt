@@ -11,15 +11,14 @@ use native.Mathlib.Numerals.{add-one}
 use lib.Dec.{ltb, leb, eqb, leb→le}
 use lib.ListN.{length, get_or, get_or-eq_default}
 use borrow.Author.Tests.{lt-ltb, le-ltb}
+use Rattle.std.specs.Prelude.{Ok, Err}
 use Rattle.basics.specs.Tests.{◌and◌, ◌or◌}
 use Rattle.basics.proofs.TestLaws.{below_suc}
 use Rattle.bits.specs.Bit.{hasb}
 use Rattle.bits.proofs.BitLaws.{bit_above, bit_lacks}
 use Rattle.refusals.specs.declared.Refusal.{Refusal}
 use Rattle.refusals.specs.declared.Refusal.TheVariants.{EndsEarly}
-use Rattle.grammar.specs.declared.Verdict.{Verdict}
-use Rattle.grammar.specs.declared.Verdict.TheVariants.{Good, Refused}
-use Rattle.grammar.specs.Verdicts.{◌then◌, unless, each}
+use Rattle.grammar.specs.Verdicts.{Verdict, Good, Refused, ◌then◌, unless, each}
 use Rattle.grammar.specs.Table.{nonterminal, mask, argument_words, length_at, functions_at}
 use Rattle.grammar.specs.Reading.{present, ranged}
 use Rattle.grammar.proofs.AcceptedSymbols.{ranged_passes}
@@ -60,17 +59,17 @@ past_end g p h = sym (get_or-eq_default g 0 h)
 
 -- ---- tests joined, as a branch meets them
 
-pub or_first : (a b u : Bool) → u ≡ a → u ≡ true → true ≡ (a or b)
+pub or_first : (a b u : Bool) → u ≡ a → u ≡ true → u ≡ (a or b)
 unfolding ◌or◌
-or_first a b u e t = sym (ap (λ (x : Bool). x or b) (sym e ∙ t))
+or_first a b u e t = t ∙ sym (ap (λ (x : Bool). x or b) (sym e ∙ t))
 
 pub or_second : (a b u v : Bool) → u ≡ a → u ≡ false → v ≡ b → v ≡ (a or b)
 unfolding ◌or◌
 or_second a b u v e f h = h ∙ sym (ap (λ (x : Bool). x or b) (sym e ∙ f))
 
-pub and_first : (a b u : Bool) → u ≡ a → u ≡ false → false ≡ (a and b)
+pub and_first : (a b u : Bool) → u ≡ a → u ≡ false → u ≡ (a and b)
 unfolding ◌and◌
-and_first a b u e f = sym (ap (λ (x : Bool). x and b) (sym e ∙ f))
+and_first a b u e f = f ∙ sym (ap (λ (x : Bool). x and b) (sym e ∙ f))
 
 pub and_second : (a b u v : Bool) → u ≡ a → u ≡ true → v ≡ b → v ≡ (a and b)
 unfolding ◌and◌
@@ -103,8 +102,8 @@ each_end n k f h l e = let q : k ≡ n = omega arith in sym e ∙ ap (λ (x : �
 -- each test of two chains is the same, as far as the tests before it passed
 pub then_same : (v w z : Verdict) → (v ≡ Good → w ≡ z) → v then w ≡ v then z
 unfolding ◌then◌
-then_same Good w z h = h refl
-then_same (Refused n) w z h = refl
+then_same (Ok _) w z h = h refl
+then_same (Err n) w z h = refl
 
 pub each_same : (n : ℕ) (f h : ℕ → Verdict) → ((k : ℕ) → f k ≡ h k) → each n f ≡ each n h
 unfolding each

@@ -17,10 +17,9 @@ use Rattle.bits.proofs.BitLaws.{bit_cases, bit_has, bit_lacks, bit_ext, bit_of_z
 use Rattle.bits.proofs.CollectLaws.{bit_collect, bit_collect_above, collect_lt}
 use Rattle.bits.proofs.SetLaws.{bit_remove_same, bit_remove_other, remove_lt}
 use Rattle.refusals.specs.declared.Refusal.TheVariants.{NoOccurrence, NotDefining, Undefined}
-use Rattle.grammar.specs.declared.Verdict.{Verdict}
 use Rattle.grammar.specs.Limits.{longest_right, most_functions, last_operation}
 use Rattle.grammar.specs.Table.{symbols, attributes, inherited, argument_words, is_constant, length_at, function_at, functions_at, function_of, functions, rule_at, right_length, symbol_of, target, operation, argument, occurrence, inherited_at, defining_class, defining, position, attribute}
-use Rattle.grammar.specs.Verdicts.{◌then◌, unless, each}
+use Rattle.grammar.specs.Verdicts.{Verdict, ◌then◌, unless, each}
 use Rattle.grammar.specs.Reading.{present, ranged, left_fault, defined_below, argument_fault, function_fault, body_fault, complete, rule_before, rule_fault}
 use Rattle.grammar.proofs.AcceptedSymbols.{ranged_passes}
 use Rattle.access.specs.ByPlace.{symbol_from, occurrence_from, defining_from, occurrences_at, definings_at, left_from, symbol_test, argument_from, arguments_from, function_from, undefined_after, functions_from, body_from, rule_from, leaves}

@@ -6,10 +6,9 @@ use Rattle.basics.specs.Tests.{◌and◌, ◌or◌}
 use Rattle.basics.specs.Lists.{word}
 use Rattle.bits.specs.Bit.{hasb, collect, remove}
 use Rattle.refusals.specs.declared.Refusal.TheVariants.{WrongClass, NoOccurrence, NotDefining, Undefined}
-use Rattle.grammar.specs.declared.Verdict.{Verdict}
 use Rattle.grammar.specs.Limits.{longest_right, most_functions, last_operation, most_occurrences}
 use Rattle.grammar.specs.Table.{symbols, attributes, nonterminal, inherited, argument_words, is_constant, length_at, function_at, functions_at, position, attribute}
-use Rattle.grammar.specs.Verdicts.{◌then◌, unless, each}
+use Rattle.grammar.specs.Verdicts.{Verdict, ◌then◌, unless, each}
 use Rattle.grammar.specs.Reading.{present, ranged}
 use Rattle.grammar.specs.WellFormed.{SymbolFormed}
 

@@ -1,17 +1,16 @@
 -- What reading hands on besides its verdict: where each rule starts; and a rule of an accepted table, with these offsets at hand.
 -- Computed: no demand rests on it. Assumes nothing.
-use Rattle.std.specs.Prelude.{ℕ, ◌<◌, ◌≡◌, List, replicate}
+use Rattle.std.specs.Prelude.{ℕ, ◌<◌, ◌≡◌, List, replicate, Ok, Err}
 use Rattle.basics.specs.Lists.{tabulate, padded}
-use Rattle.grammar.specs.declared.Verdict.{Verdict}
-use Rattle.grammar.specs.declared.Verdict.TheVariants.{Good, Refused}
+use Rattle.grammar.specs.Verdicts.{Verdict, Good}
 use Rattle.grammar.specs.Limits.{most_rules}
 use Rattle.grammar.specs.Table.{rules, rule_at}
 use Rattle.grammar.specs.Reading.{read_table}
 
 -- the first word of each rule, zeros where there is no rule, and zeros for a table that is refused
 unfoldable pub offsets_for : List ℕ → Verdict → List ℕ
-offsets_for g Good = padded most_rules (tabulate (rules g) (λ r. rule_at g r))
-offsets_for g (Refused n) = replicate most_rules 0
+offsets_for g (Ok _) = padded most_rules (tabulate (rules g) (λ r. rule_at g r))
+offsets_for g (Err n) = replicate most_rules 0
 
 -- rule r of an accepted table, with the offsets of its rules
 pub record RuleOf (g offsets : List ℕ) (r : ℕ) : Type 0 where

@@ -6,10 +6,32 @@ ghost use Rattle.std.specs.Prelude.{◌≡◌, ◌+◌, ◌*◌, ◌^◌, ◌≤
 ghost use Rattle.bits.specs.Bit as bit;
 ghost use Rattle.basics.specs.Lists.{word};
 ghost use Rattle.grammar.specs.Limits.{most_rules};
+ghost use Rattle.grammar.specs.Reading.{read_table};
 ghost use Rattle.grammar.specs.Table as table;
+ghost use Rattle.grammar.specs.Verdicts.{Good};
 ghost use Rattle.access.specs.ByPlace as places;
+ghost use Rattle.access.specs.Offsets.{offsets_for};
 
 use grammar::Offsets;
+
+// A table that reading accepted, with the word at which each of its rules starts: later code need not look for it, nor test the words again.
+#[derive(Clone, Copy)]
+pub struct Table<'a> {
+    pub words: &'a [u16],
+    pub offsets: Offsets,
+    ghost accepted: { read_table words.now ≡ Good },
+    ghost placed: { offsets ≡ offsets_for words.now Good },
+}
+
+impl Table<'_> {
+    // The word at which rule r starts.
+    pub fn rule_at(&self, r: usize) -> usize
+        requires { r < most_rules }
+        ensures { result ≡ get_or self.now.offsets r 0 }
+    {
+        wide(self.offsets[r])
+    }
+}
 
 // The word at a place, 0 past the end.
 pub fn word(words: &[u16], p: usize) -> usize
@@ -90,14 +112,6 @@ pub fn nonterminal(words: &[u16], x: usize) -> bool
     ensures { result ≡ table.nonterminal words.now x }
 {
     kind(words, x) == 0
-}
-
-// The word at which rule r starts, by the offsets that reading hands on.
-pub fn rule_at(offsets: &Offsets, r: usize) -> usize
-    requires { r < most_rules }
-    ensures { result ≡ get_or offsets.now r 0 }
-{
-    wide(offsets[r])
 }
 
 // The rule at word p: its right length, the symbol at a position, how many functions, and where the first one starts.

@@ -6,3 +6,4 @@ pub mod CountLaws
 pub mod ShiftLaws
 pub mod MemberLaws
 pub mod RestLaws
+pub mod WalkLaws

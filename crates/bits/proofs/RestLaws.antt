@@ -2,11 +2,12 @@
 use Prim.Native.Nat.{ℕ, zero, suc, ◌+◌, ◌-◌, ◌*◌, ◌/◌, ◌%◌, ◌^◌, ◌≤◌, ◌<◌, min}
 use native.Mathlib.Nat.{pow-suc}
 use native.Mathlib.Omega.{arith}
-use mathlib.Core.Path.{◌≡◌, refl, sym, ap, ◌∙◌, subst}
+use mathlib.Core.Path.{◌≡◌, refl, sym, ap, ◌∙◌, subst, subst⁻¹}
 use lib.Bits.{bit_and, and_step}
 use Rattle.bits.specs.Bit.{bit, remove, lowest, First}
 use Rattle.bits.proofs.BitLaws.{bit_zero, bit_suc, bit_of_zero}
 use Rattle.bits.proofs.LowestLaws.{lowest_is, bit_lowest}
+use Rattle.bits.proofs.SetLaws.{remove_less}
 
 -- a set meets itself in itself
 common_self : (w s : ℕ) → s < 2 ^ w → bit_and s s ≡ s
@@ -47,3 +48,7 @@ rest_is s h k = and_less 64 (lowest 64 s) s h (bit_lowest 64 s h k) (lowest_is 6
 -- without the lowest member, whichever is named so
 pub rest_of : (s l r : ℕ) → First s l → r ≡ remove (lowest 64 s) s → r ≡ remove l s
 rest_of s l r f e = e ∙ ap (λ (i : ℕ). remove i s) (sym f.is)
+
+-- and that is less, as a number
+pub rest_less : (s l r : ℕ) → First s l → r ≡ remove (lowest 64 s) s → r < s
+rest_less s l r f e = subst⁻¹ (λ (x : ℕ). x < s) (rest_of s l r f e) (remove_less l s f.member)

@@ -3,8 +3,10 @@
 #![tactic(auto)]
 
 ghost use Rattle.std.specs.Prelude.{◌≡◌, cond, ◌≤◌, ◌<◌};
+ghost use Rattle.std.specs.Iterator.{at_most};
 ghost use Rattle.bits.specs.Bit as sets;
 ghost use Rattle.bits.specs.End.{End};
+ghost use Rattle.bits.specs.Next.{Next};
 
 // Whether i is a member.
 pub fn has(set: u64, i: usize) -> bool
@@ -140,4 +142,34 @@ pub fn rest(set: u64) -> u64
     ensures { result ≡ sets.remove (sets.lowest 64 set) set }
 {
     set & (set - 1)
+}
+
+// The members of a set, lowest first; `left` has those that did not come yet.
+#[derive(Drop)]
+pub struct LowestFirst {
+    left: u64,
+}
+
+impl Iterator for LowestFirst {
+    type Item = usize;
+
+    ghost next_gives = { λ s r t. Next s.left r t.left };
+
+    ghost remaining = { λ s. at_most s.left };
+
+    fn next(&mut self) -> Option<usize> {
+        if self.left == 0 {
+            return None;
+        }
+        let a = first(self.left);
+        self.left = rest(self.left);
+        Some(a)
+    }
+}
+
+// What a `for` goes over.
+pub fn members(set: u64) -> LowestFirst
+    ensures { result.left ≡ set }
+{
+    LowestFirst { left: set }
 }

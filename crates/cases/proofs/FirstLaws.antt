@@ -6,6 +6,7 @@ use mathlib.Core.Logic.{◌⊎◌, inl, inr, ⊎_elim}
 use mathlib.Core.List.{List, [], ◌∷◌}
 use native.Mathlib.Omega.{arith}
 use lib.ListN.{get_or}
+use Rattle.std.specs.Prelude.{Ok, Err}
 use Rattle.basics.proofs.TestLaws.{below_or_not}
 use Rattle.refusals.specs.declared.Refusal.{Refusal}
 use Rattle.refusals.specs.declared.Refusal.TheVariants.{
@@ -28,9 +29,7 @@ use Rattle.refusals.specs.declared.Refusal.TheVariants.{
   ValuesTooShort,
 }
 use Rattle.refusals.specs.Numbers.{number_of, place_of, second_of}
-use Rattle.grammar.specs.declared.Verdict.{Verdict}
-use Rattle.grammar.specs.declared.Verdict.TheVariants.{Good, Refused}
-use Rattle.grammar.specs.Verdicts.{◌then◌}
+use Rattle.grammar.specs.Verdicts.{Verdict, Good, Refused, ◌then◌}
 use Rattle.cases.specs.First.{walk, Earlier, earlier_walk, earlier_place, lower_occurrence, lower_number, FirstCase, GoesBy}
 
 -- a verdict is good or one refusal
@@ -134,13 +133,13 @@ module _ (g : List ℕ) where
       }
     where
       back : (w : Verdict) → ((n : Refusal) → w ≡ Refused n → FirstCase g Case n) → v ≡ w → ((n : Refusal) → ¬ Case n) → v ≡ Good
-      back Good f e h = e
-      back (Refused n) f e h = absurd (h n (f n refl).applies)
+      back (Ok _) f e h = e
+      back (Err n) f e h = absurd (h n (f n refl).applies)
 
       same_refusal : (w : Verdict) → (w ≡ Good → (n : Refusal) → ¬ Case n) → ((n : Refusal) → w ≡ Refused n → FirstCase g Case n) → v ≡ w
           → (n : Refusal) → FirstCase g Case n → v ≡ Refused n
-      same_refusal Good h f e n q = absurd (h refl n q.applies)
-      same_refusal (Refused m) h f e n q = e ∙ ap Refused (first_one Case m n (f m refl) q)
+      same_refusal (Ok _) h f e n q = absurd (h refl n q.applies)
+      same_refusal (Err m) h f e n q = e ∙ ap Refused (first_one Case m n (f m refl) q)
 
   -- a verdict's finding: no case applies, or this is the first
   pub data Found (Case : Refusal → Type 1) (v : Verdict) : Type 1 where
@@ -172,10 +171,10 @@ module _ (g : List ℕ) where
 
     pub goes_then : (v w : Verdict) → GoesBy g A v → (v ≡ Good → GoesBy g B w) → GoesBy g Both (v then w)
     unfolding ◌then◌
-    goes_then Good w p q =
+    goes_then (Ok _) w p q =
         goes_by Both w
         (λ e n c. ⊎_elim (λ a. p.good.0 refl n a) (λ b. (q refl).good.0 e n b) (either n c))
         (λ n e. first_right (p.good.0 refl) n (((q refl).refused n).0 e))
-    goes_then (Refused k) w p q =
+    goes_then (Err k) w p q =
         goes_by Both (Refused k) (λ e. absurd (good_not_refused k (sym e)))
         (λ n e. first_left n ((p.refused n).0 e))

@@ -8,21 +8,19 @@ use native.Mathlib.Omega.{arith}
 use lib.Dec.{leb, leb→le, le→leb, not_T}
 use lib.IntN.{ℤ}
 use lib.ListN.{length}
+use Rattle.std.specs.Prelude.{Ok, Err}
 use Rattle.basics.proofs.TestLaws.{chosen, passed_over}
 use Rattle.refusals.specs.declared.Refusal.{Refusal}
-use Rattle.grammar.specs.declared.Verdict.{Verdict}
-use Rattle.grammar.specs.declared.Verdict.TheVariants.{Good, Refused}
+use Rattle.grammar.specs.Verdicts.{Verdict}
 use Rattle.plans.specs.Answer.{Outcome, untouched, circular_idp, unordered, accepted, outcome}
 use Rattle.trees.specs.Checking.{check_tree}
-use Rattle.runs.specs.declared.Ran as R
-use Rattle.runs.specs.Automaton.{started}
 use Rattle.runs.specs.Run.{ran, run_answer, values_after}
 use Rattle.runner.specs.Whole.{came, left_plan, answer, values}
 use Rattle.cases.specs.First.{room_walk, idp_walk, edp_walk, walk, earlier_walk}
 use Rattle.cases.specs.AllCases.{in_plan, PlanRefuses, Refuses}
 use Rattle.cases.proofs.PlanTests.{plan_walk}
 use Rattle.cases.proofs.PlanOutcomes.{refused_with, plan_outcome, plan_done}
-use Rattle.cases.proofs.RunTests.{runs, run_refused}
+use Rattle.cases.proofs.RunTests.{not_refused, run_refused}
 
 -- how far planning came, by the walk of the refusal
 early : (g : List ℕ) (n : Refusal) → walk g n ≤ room_walk → refused_with g n ≡ untouched n
@@ -74,10 +72,10 @@ module _ (g rows plan : List ℕ) where
     unfolding values answer came
     values_stay_law = stay reached (check_tree g t (length vs)) ((run_refused g rows plan t vs budget n).1 refuses)
       where
-        stay : (o : Outcome) (v : Verdict) → run_answer g (left_plan g rows plan) t o v vs budget ≡ R.TheVariants.Refused n
+        stay : (o : Outcome) (v : Verdict) → run_answer g (left_plan g rows plan) t o v vs budget ≡ Err n
             → values_after g (left_plan g rows plan) t o v vs budget ≡ vs
         stay (untouched k) v e = unfold values_after in refl
         stay (circular_idp k) v e = unfold values_after in refl
         stay (unordered k) v e = unfold values_after in refl
-        stay accepted (Refused k) e = unfold values_after in refl
-        stay accepted Good e = absurd (runs g (left_plan g rows plan) t budget 0 (started t vs) n (unfold run_answer ran in e))
+        stay accepted (Err k) e = unfold values_after in refl
+        stay accepted (Ok _) e = absurd (not_refused (ran g (left_plan g rows plan) t vs budget).answer n (unfold run_answer in e))

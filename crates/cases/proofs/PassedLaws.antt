@@ -8,11 +8,10 @@ use mathlib.Core.List.{List}
 use native.Mathlib.Omega.{arith}
 use native.Mathlib.Nat.{not-suc-le-zero}
 use lib.Dec.{T}
+use Rattle.std.specs.Prelude.{Ok, Err}
 use Rattle.basics.proofs.TestLaws.{below_suc}
 use Rattle.refusals.specs.declared.Refusal.{Refusal}
-use Rattle.grammar.specs.declared.Verdict.{Verdict}
-use Rattle.grammar.specs.declared.Verdict.TheVariants.{Good, Refused}
-use Rattle.grammar.specs.Verdicts.{◌then◌, unless, each}
+use Rattle.grammar.specs.Verdicts.{Verdict, Good, Refused, ◌then◌, unless, each}
 use Rattle.cases.specs.First.{Earlier, GoesBy}
 use Rattle.cases.proofs.FirstLaws.{good_not_refused, same_refused, goes_by}
 
@@ -35,8 +34,8 @@ module _ (Case : Refusal → Type 1) (key : Refusal → ℕ) where
 
   pub ends_then : (v w : Verdict) (end : ℕ) → EndsBelow v end → EndsBelow w end → EndsBelow (v then w) end
   unfolding ◌then◌
-  ends_then Good w end p q = q
-  ends_then (Refused m) w end p q = p
+  ends_then (Ok _) w end p q = q
+  ends_then (Err m) w end p q = p
 
   pub ends_unless : (b : Bool) (m : Refusal) (end : ℕ) → key m < end → EndsBelow (unless b m) end
   unfolding unless
@@ -54,8 +53,8 @@ module _ (Case : Refusal → Type 1) (key : Refusal → ℕ) where
   -- a later part may rely on the earlier ones
   pub within_then : (v w : Verdict) (end : ℕ) → CasesWithin v end → (v ≡ Good → CasesWithin w end) → CasesWithin (v then w) end
   unfolding ◌then◌
-  within_then Good w end p q = q refl
-  within_then (Refused m) w end p q = p
+  within_then (Ok _) w end p q = q refl
+  within_then (Err m) w end p q = p
 
   pub within_unless : (b : Bool) (m : Refusal) (end : ℕ) → (T (not b) → Case m) → key m < end → CasesWithin (unless b m) end
   unfolding unless
@@ -76,18 +75,18 @@ module _ (Case : Refusal → Type 1) (key : Refusal → ℕ) where
 
   pub passed_first : (v w : Verdict) (k : ℕ) → Passed (v then w) k → Passed v k
   unfolding ◌then◌
-  passed_first Good w k p = passed_good Good k refl
-  passed_first (Refused m) w k p = p
+  passed_first (Ok _) w k p = passed_good Good k refl
+  passed_first (Err m) w k p = p
 
   -- a part that ends at this key or before is good
   pub passed_all : (v : Verdict) (k : ℕ) → EndsBelow v (suc k) → Passed v k → v ≡ Good
-  passed_all Good k w p = refl
-  passed_all (Refused m) k w p = absurd (omega (arith, w.below m refl, p.after m refl))
+  passed_all (Ok _) k w p = refl
+  passed_all (Err m) k w p = absurd (omega (arith, w.below m refl, p.after m refl))
 
   pub passed_second : (v w : Verdict) (k : ℕ) → EndsBelow v (suc k) → Passed (v then w) k → Passed w k
   unfolding ◌then◌
-  passed_second Good w k h p = p
-  passed_second (Refused m) w k h p = absurd (omega (arith, h.below m refl, p.after m refl))
+  passed_second (Ok _) w k h p = p
+  passed_second (Err m) w k h p = absurd (omega (arith, h.below m refl, p.after m refl))
 
   pub passed_unless : (b : Bool) (m : Refusal) → Passed (unless b m) (key m) → T b
   unfolding unless

@@ -9,10 +9,9 @@ use lib.ListN.{length}
 use Rattle.basics.specs.Tests.{◌and◌, ◌or◌}
 use Rattle.refusals.specs.declared.Refusal.{Refusal}
 use Rattle.refusals.specs.declared.Refusal.TheVariants.{EndsEarly, OutOfRange, WrongClass}
-use Rattle.grammar.specs.declared.Verdict.{Verdict}
 use Rattle.grammar.specs.Limits.{most_symbols, most_rules, most_attributes}
 use Rattle.grammar.specs.Table.{symbols, rules, start, symbol_at, kind, attributes, mask, nonterminal}
-use Rattle.grammar.specs.Verdicts.{◌then◌, unless}
+use Rattle.grammar.specs.Verdicts.{Verdict, ◌then◌, unless}
 use Rattle.grammar.specs.Reading.{present, ranged, header, symbol_fault}
 use Rattle.cases.specs.TableCases.{TableCase}
 use Rattle.cases.proofs.PassedLaws.{EndsBelow, ends_then, ends_unless, Passed, passed_down, passed_first, passed_second, passed_unless}

@@ -7,15 +7,14 @@ use mathlib.Core.Bool.{Bool, true, false, cond}
 use mathlib.Core.List.{List}
 use native.Mathlib.Omega.{arith}
 use lib.Dec.{leb, le→leb}
+use Rattle.std.specs.Prelude.{Ok, Err}
 use Rattle.basics.proofs.TestLaws.{chosen}
 use Rattle.refusals.specs.declared.Refusal.{Refusal}
 use Rattle.refusals.specs.declared.Refusal.TheVariants.{TooShort}
-use Rattle.grammar.specs.declared.Verdict.{Verdict}
-use Rattle.grammar.specs.declared.Verdict.TheVariants.{Good, Refused}
 use Rattle.grammar.specs.Limits.{row_words, plan_words}
 use Rattle.grammar.specs.Table.{rules}
 use Rattle.grammar.specs.Reading.{read_table}
-use Rattle.grammar.specs.Verdicts.{◌then◌, unless}
+use Rattle.grammar.specs.Verdicts.{Verdict, Good, Refused, ◌then◌, unless}
 use Rattle.relations.specs.Computed.{ids_of}
 use Rattle.order.specs.Computed.{circular}
 use Rattle.plans.specs.Answer.{
@@ -71,8 +70,8 @@ module _ (g : List ℕ) (rows_length plan_length : ℕ) where
 
   settled_early : (v : Verdict) → ((n : Refusal) → v ≡ Refused n → walk g n ≤ room_walk) → Settled (after_reading g v)
   unfolding after_reading verdict_of
-  settled_early Good h = settled_cycles
-  settled_early (Refused m) h =
+  settled_early (Ok _) h = settled_cycles
+  settled_early (Err m) h =
       settled_refused (untouched m) m refl (sym (chosen (leb (walk g m) room_walk) (untouched m) _ (le→leb (walk g m) room_walk (h m refl))))
 
   room_walk_law : (n : Refusal) → room g rows_length plan_length ≡ Refused n → walk g n ≤ room_walk
@@ -87,8 +86,8 @@ module _ (g : List ℕ) (rows_length plan_length : ℕ) where
   reading_walk : (v w : Verdict) → ((n : Refusal) → v ≡ Refused n → walk g n ≤ room_walk) → ((n : Refusal) → w ≡ Refused n → walk g n ≤ room_walk)
       → (n : Refusal) → (v then w) ≡ Refused n → walk g n ≤ room_walk
   unfolding ◌then◌
-  reading_walk Good w p q n e = q n e
-  reading_walk (Refused m) w p q n e = p n e
+  reading_walk (Ok _) w p q n e = q n e
+  reading_walk (Err m) w p q n e = p n e
 
   settled : Settled (outcome g rows_length plan_length)
   unfolding outcome

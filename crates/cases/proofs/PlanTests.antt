@@ -6,15 +6,13 @@ use mathlib.Core.Logic.Iff
 use mathlib.Core.Logic.{◌⊎◌, inl, inr, ◌↔◌}
 use mathlib.Core.List.{List}
 use native.Mathlib.Omega.{arith}
+use Rattle.std.specs.Prelude.{Ok, Err}
 use Rattle.refusals.specs.declared.Refusal.{Refusal}
-use Rattle.grammar.specs.declared.Verdict.{Verdict}
-use Rattle.grammar.specs.declared.Verdict.TheVariants.{Good, Refused}
 use Rattle.grammar.specs.Limits.{plan_words}
 use Rattle.grammar.specs.Table.{rules}
 use Rattle.grammar.specs.Reading.{read_table}
-use Rattle.grammar.specs.Verdicts.{◌then◌}
+use Rattle.grammar.specs.Verdicts.{Verdict, Good, Refused, ◌then◌}
 use Rattle.relations.specs.Computed.{ids_of}
-use Rattle.plans.specs.declared.Planned as P
 use Rattle.plans.specs.Answer.{
   Outcome,
   untouched,
@@ -41,9 +39,9 @@ use Rattle.cases.proofs.PlanningFirst.{verdict_of, planning_walk, found_planning
 verdict_parts : (g : List ℕ) (v w : Verdict)
     → verdict_of (after_reading g (v then w)) ≡ (v then (w then verdict_of (after_room g (ids_of g))))
 unfolding ◌then◌ after_reading verdict_of
-verdict_parts g Good Good = refl
-verdict_parts g Good (Refused n) = refl
-verdict_parts g (Refused n) w = refl
+verdict_parts g (Ok _) (Ok _) = refl
+verdict_parts g (Ok _) (Err n) = refl
+verdict_parts g (Err n) w = refl
 
 module _ (g : List ℕ) (rows_length plan_length : ℕ) where
   either : (n : Refusal) → PlanCase g rows_length plan_length n → TableCase g n ⊎ PlanningCase g rows_length plan_length n
@@ -65,7 +63,7 @@ module _ (g : List ℕ) (rows_length plan_length : ℕ) where
       (λ e. by_finding g (PlanningCase g rows_length plan_length) _ (found_planning g rows_length plan_length e)))
 
   -- what planning answers
-  answer_refused : (o : Outcome) (n : Refusal) → (answer_of g o ≡ P.TheVariants.Refused n) ↔ (verdict_of o ≡ Refused n)
+  answer_refused : (o : Outcome) (n : Refusal) → (answer_of g o ≡ Err n) ↔ (verdict_of o ≡ Refused n)
   unfolding answer_of verdict_of
   answer_refused (untouched k) n = (λ e. cc, λ e. cc)
   answer_refused (circular_idp k) n = (λ e. cc, λ e. cc)
@@ -73,7 +71,7 @@ module _ (g : List ℕ) (rows_length plan_length : ℕ) where
   answer_refused accepts n = (λ e. absurd (let z : ◌≡◌ {A = ℕ} 0 1 = cc in omega arith), λ e. absurd (good_not_refused n e))
 
   answer_accepted : (o : Outcome) (k : ℕ)
-      → (answer_of g o ≡ P.TheVariants.Accepted k) ↔ ((k ≡ plan_words (rules g)) × (verdict_of o ≡ Good))
+      → (answer_of g o ≡ Ok k) ↔ ((k ≡ plan_words (rules g)) × (verdict_of o ≡ Good))
   unfolding answer_of verdict_of
   answer_accepted (untouched m) k =
       (λ e. absurd (let z : ◌≡◌ {A = ℕ} 0 1 = cc in omega arith), λ e. absurd (good_not_refused m (sym e.1)))
@@ -81,15 +79,15 @@ module _ (g : List ℕ) (rows_length plan_length : ℕ) where
       (λ e. absurd (let z : ◌≡◌ {A = ℕ} 0 1 = cc in omega arith), λ e. absurd (good_not_refused m (sym e.1)))
   answer_accepted (unordered m) k =
       (λ e. absurd (let z : ◌≡◌ {A = ℕ} 0 1 = cc in omega arith), λ e. absurd (good_not_refused m (sym e.1)))
-  answer_accepted accepts k = (λ e. (cc, refl), λ e. accepted_answer g ∙ ap P.TheVariants.Accepted (sym e.0))
+  answer_accepted accepts k = (λ e. (cc, refl), λ e. accepted_answer g ∙ ap Ok (sym e.0))
 
   -- planning answers refusal n exactly if n is the first of the cases 1 to 10 that applies
   pub plan_refused : (n : Refusal)
-      → (answer_of g (outcome g rows_length plan_length) ≡ P.TheVariants.Refused n) ↔ PlanRefuses g rows_length plan_length n
+      → (answer_of g (outcome g rows_length plan_length) ≡ Err n) ↔ PlanRefuses g rows_length plan_length n
   plan_refused n = Iff.trans (answer_refused (outcome g rows_length plan_length) n) (plan_verdict.refused n)
 
   -- and a plan exactly if none applies
-  pub plan_accepted : (k : ℕ) → (answer_of g (outcome g rows_length plan_length) ≡ P.TheVariants.Accepted k)
+  pub plan_accepted : (k : ℕ) → (answer_of g (outcome g rows_length plan_length) ≡ Ok k)
       ↔ ((k ≡ plan_words (rules g)) × ((n : Refusal) → ¬ PlanCase g rows_length plan_length n))
   plan_accepted k = (
     λ e. let w = (answer_accepted (outcome g rows_length plan_length) k).0 e in (w.0, plan_verdict.good.0 w.1),

@@ -10,12 +10,10 @@ use lib.Dec.{T, leb, leb→le, nleb→lt}
 use Rattle.basics.proofs.TestLaws.{tested, chosen, passed_over, true_T, false_T, T_false}
 use Rattle.refusals.specs.declared.Refusal.{Refusal}
 use Rattle.refusals.specs.declared.Refusal.TheVariants.{TooShort, CircularIdp, CircularEdp}
-use Rattle.grammar.specs.declared.Verdict.{Verdict}
-use Rattle.grammar.specs.declared.Verdict.TheVariants.{Good, Refused}
 use Rattle.grammar.specs.Limits.{row_words, plan_words}
 use Rattle.grammar.specs.Table.{rules, rule_counts}
 use Rattle.grammar.specs.Reading.{read_table}
-use Rattle.grammar.specs.Verdicts.{◌then◌, unless}
+use Rattle.grammar.specs.Verdicts.{Verdict, Good, Refused, ◌then◌, unless}
 use Rattle.grammar.proofs.AcceptedTable.{accepted}
 use Rattle.relations.specs.Paper.{IDP⁺, OnCycle}
 use Rattle.relations.specs.Computed.{ids_of}

@@ -6,16 +6,15 @@ use mathlib.Core.Logic.{◌↔◌}
 use mathlib.Core.List.{List}
 use lib.IntN.{ℤ}
 use lib.ListN.{length}
+use Rattle.std.specs.Prelude.{Ok, Err}
 use Rattle.refusals.specs.declared.Refusal.{Refusal}
-use Rattle.grammar.specs.declared.Verdict.TheVariants.{Good, Refused}
+use Rattle.grammar.specs.Verdicts.{Good, Refused}
 use Rattle.grammar.specs.Limits.{plan_words}
 use Rattle.grammar.specs.Table.{rules}
 use Rattle.grammar.specs.Reading.{read_table}
 use Rattle.grammar.proofs.AcceptedTable.{accepted as well_formed}
-use Rattle.plans.specs.declared.Planned as P
 use Rattle.plans.specs.Answer.{accepted, outcome, answer_of}
 use Rattle.trees.specs.Checking.{check_tree}
-use Rattle.runs.specs.declared.Ran as R
 use Rattle.runner.specs.Whole.{answer}
 use Rattle.cases.specs.First.{FirstCase}
 use Rattle.cases.specs.TableCases.{TableCase}
@@ -54,19 +53,19 @@ module _ (g : List ℕ) (rows_length plan_length : ℕ) where
   outcome_accepted = outcomes.plan_done g rows_length plan_length
 
   pub planning_refused : (n : Refusal)
-      → (answer_of g (outcome g rows_length plan_length) ≡ P.TheVariants.Refused n) ↔ PlanRefuses g rows_length plan_length n
+      → (answer_of g (outcome g rows_length plan_length) ≡ Err n) ↔ PlanRefuses g rows_length plan_length n
   planning_refused n = plan.plan_refused g rows_length plan_length n
 
-  pub planning_accepted : (k : ℕ) → (answer_of g (outcome g rows_length plan_length) ≡ P.TheVariants.Accepted k)
+  pub planning_accepted : (k : ℕ) → (answer_of g (outcome g rows_length plan_length) ≡ Ok k)
       ↔ ((k ≡ plan_words (rules g)) × ((n : Refusal) → ¬ PlanCase g rows_length plan_length n))
   planning_accepted = plan.plan_accepted g rows_length plan_length
 
 module _ (g rows plan t : List ℕ) (values : List ℤ) (budget : ℕ) where
   -- a whole run: 1 to 18
   pub run_refused : (n : Refusal)
-      → (answer g rows plan t values budget ≡ R.TheVariants.Refused n) ↔ Refuses g (length rows) (length plan) t (length values) n
+      → (answer g rows plan t values budget ≡ Err n) ↔ Refuses g (length rows) (length plan) t (length values) n
   run_refused n = run.run_refused g rows plan t values budget n
 
-  pub run_carried_out : ((n : Refusal) → ¬ (answer g rows plan t values budget ≡ R.TheVariants.Refused n))
+  pub run_carried_out : ((n : Refusal) → ¬ (answer g rows plan t values budget ≡ Err n))
       ↔ ((n : Refusal) → ¬ RunCase g (length rows) (length plan) t (length values) n)
   run_carried_out = run.run_carried_out g rows plan t values budget

@@ -11,11 +11,9 @@ use lib.ListN.{length}
 use Rattle.basics.specs.Tests.{◌and◌, ◌or◌}
 use Rattle.basics.proofs.TestLaws.{and_intro, or_left, or_right, eq_T, tested, below_or_not}
 use Rattle.refusals.specs.declared.Refusal.TheVariants.{EndsEarly, OutOfRange, WrongClass}
-use Rattle.grammar.specs.declared.Verdict.{Verdict}
-use Rattle.grammar.specs.declared.Verdict.TheVariants.{Good}
 use Rattle.grammar.specs.Limits.{most_symbols, most_rules, most_attributes}
 use Rattle.grammar.specs.Table.{symbols, rules, start, symbol_at, kind, attributes, mask, nonterminal, rule_at}
-use Rattle.grammar.specs.Verdicts.{◌then◌, unless, each}
+use Rattle.grammar.specs.Verdicts.{Verdict, Good, ◌then◌, unless, each}
 use Rattle.grammar.specs.Reading.{present, ranged, header, symbol_fault, start_class}
 use Rattle.grammar.proofs.VerdictLaws.{each_at}
 use Rattle.grammar.proofs.AcceptedSymbols.{ranged_passes, symbol_formed}

@@ -21,10 +21,8 @@ use Rattle.refusals.specs.declared.Refusal.TheVariants.{
   NotOneParent,
   ValuesTooShort,
 }
-use Rattle.grammar.specs.declared.Verdict.{Verdict}
-use Rattle.grammar.specs.declared.Verdict.TheVariants.{Good}
 use Rattle.grammar.specs.Table.{symbols, rules, start, kind, nonterminal, symbol_of}
-use Rattle.grammar.specs.Verdicts.{unless, each}
+use Rattle.grammar.specs.Verdicts.{Verdict, Good, unless, each}
 use Rattle.grammar.specs.WellFormed.{SymbolFormed, RuleFormed, WellFormed}
 use Rattle.grammar.proofs.VerdictLaws.{then_first, unless_passes, each_at}
 use Rattle.trees.specs.Tree.{most_nodes, terminal_mark, nodes, rule_of, applies_rule, child, used_slots, symbol_at_node, value_words}

@@ -21,10 +21,8 @@ use Rattle.refusals.specs.declared.Refusal.TheVariants.{
   NotOneParent,
   ValuesTooShort,
 }
-use Rattle.grammar.specs.declared.Verdict.{Verdict}
-use Rattle.grammar.specs.declared.Verdict.TheVariants.{Good}
 use Rattle.grammar.specs.Table.{start, symbol_of}
-use Rattle.grammar.specs.Verdicts.{◌then◌, unless, each}
+use Rattle.grammar.specs.Verdicts.{Verdict, Good, ◌then◌, unless, each}
 use Rattle.grammar.specs.WellFormed.{WellFormed}
 use Rattle.trees.specs.Tree.{most_nodes, nodes, rule_of, child, used_slots, symbol_at_node, value_words}
 use Rattle.trees.specs.Checking.{

@@ -1,6 +1,6 @@
 -- Document 01, "Refusal numbers", the order: which of several cases answers. A case is a refusal with its places; it applies or not.
 -- The work goes in walks, one after the other, and each case is tested in one of them. Assumes nothing.
-use Rattle.std.specs.Prelude.{ℕ, ◌<◌, ◌≡◌, ◌↔◌, cond, List, ltb, eqb}
+use Rattle.std.specs.Prelude.{ℕ, ◌<◌, ◌≡◌, ◌↔◌, cond, List, ltb, eqb, Result, Ok, Err}
 use Rattle.refusals.specs.declared.Refusal.{Refusal}
 use Rattle.refusals.specs.declared.Refusal.TheVariants.{
   EndsEarly,
@@ -22,8 +22,6 @@ use Rattle.refusals.specs.declared.Refusal.TheVariants.{
   ValuesTooShort,
 }
 use Rattle.refusals.specs.Numbers.{number_of, place_of, second_of}
-use Rattle.grammar.specs.declared.Verdict.{Verdict}
-use Rattle.grammar.specs.declared.Verdict.TheVariants.{Good, Refused}
 use Rattle.grammar.specs.Table.{rule_at}
 
 -- "Words are read left to right", and "Start's class is tested after the symbols, before the rules": a walk over the words up to the first
@@ -87,6 +85,6 @@ pub record FirstCase (g : List ℕ) (Case : Refusal → Type 1) (n : Refusal) : 
   pub no_earlier : (m : Refusal) → Case m → ¬ Earlier g m n
 
 -- a verdict goes by these cases: it is good exactly if none applies, and a refusal exactly if that is the first that applies
-pub record GoesBy (g : List ℕ) (Case : Refusal → Type 1) (v : Verdict) : Type 1 where
-  pub good : (v ≡ Good) ↔ ((n : Refusal) → ¬ Case n)
-  pub refused : (n : Refusal) → (v ≡ Refused n) ↔ FirstCase g Case n
+pub record GoesBy (g : List ℕ) (Case : Refusal → Type 1) (v : Result (Unit {0}) Refusal) : Type 1 where
+  pub good : (v ≡ Ok tt) ↔ ((n : Refusal) → ¬ Case n)
+  pub refused : (n : Refusal) → (v ≡ Err n) ↔ FirstCase g Case n

@@ -8,7 +8,8 @@ use mathlib.Core.List.{List}
 use native.Mathlib.Omega.{arith}
 use native.Mathlib.Numerals.{add-one}
 use lib.Dec.{T, leb, eqb, le→leb}
-use lib.ListN.{length, get_or, set, length-set, replicate, length-replicate, get_or-replicate, get_or-eq_default}
+use lib.ListN.{length, get_or, take, drop, length-take, length-drop, set, length-set, replicate, length-replicate, get_or-replicate, get_or-eq_default}
+use Rattle.std.proofs.lemmas.List.{get_or-take, get_or-drop}
 use lib.Seq.{get_or-set_same, get_or-set_other}
 use borrow.Author.Tests.{lt-leb, eq-eqb, ne_eqb}
 use Rattle.basics.specs.Tests.{count}
@@ -17,9 +18,7 @@ use Rattle.basics.proofs.TestLaws.{and_passed, and_failed, false_T, same_or_not,
 use Rattle.trees.specs.Tree.{most_nodes, nodes, child, used_slots}
 use Rattle.trees.specs.Checking.{known_word, names_node, once_child}
 use Rattle.refusals.specs.declared.Refusal.TheVariants.{NotOneParent}
-use Rattle.grammar.specs.declared.Verdict.{Verdict}
-use Rattle.grammar.specs.declared.Verdict.TheVariants.{Good, Refused}
-use Rattle.grammar.specs.Verdicts.{◌then◌, unless, each}
+use Rattle.grammar.specs.Verdicts.{Verdict, Good, Refused, ◌then◌, unless, each}
 use Rattle.access.proofs.Laws.{unless_true, unless_false}
 use Rattle.checking.specs.Walk.{Known, slot_names, Naming, NamedMore, Names, named_once, named_fault}
 
@@ -105,6 +104,25 @@ slots_few : (t : List ℕ) (n m k : ℕ) → slot_names t n m k ≤ k
 unfolding slot_names
 slots_few t n m k = count_le k (λ i. eqb (child t n (suc i)) m)
 
+-- ---- the used slots as a part of the tree
+
+module _ (t : List ℕ) (n used i : ℕ) where
+  abbrev slots : List ℕ
+  slots = take (8 * n + 1 + used - (8 * n + 1)) (drop (8 * n + 1) t)
+
+  pub slot_under : i < length slots → i < used
+  slot_under h = omega (arith, length-take (8 * n + 1 + used - (8 * n + 1)) (drop (8 * n + 1) t))
+
+  pub slot_read : i < length slots → get_or slots i 0 ≡ get_or t (8 * n + i + 1) 0
+  slot_read h =
+      let q : 8 * n + 1 + i ≡ 8 * n + i + 1 = omega arith in
+      get_or-take (8 * n + 1 + used - (8 * n + 1)) (drop (8 * n + 1) t) i 0 (omega (arith, slot_under h))
+      ∙ (get_or-drop (8 * n + 1) t i 0 ∙ ap (λ (x : ℕ). get_or t x 0) q)
+
+  pub slots_done : n < nodes t → used ≤ 7 → length slots ≤ i → used ≤ i
+  slots_done h l e =
+      omega (arith, length-take (8 * n + 1 + used - (8 * n + 1)) (drop (8 * n + 1) t), length-drop (8 * n + 1) t)
+
 -- the loop over the slots of a node
 pub record NamedTo (entry t : List ℕ) (n used : ℕ) (named : List ℕ) (i : ℕ) : Type 0 where
   pub naming : Naming entry t n used
@@ -162,22 +180,22 @@ named_finish entry t n used named i w h =
     record { size = w.size; counts = λ m b. w.counts m b ∙ ap (λ (k : ℕ). word entry m + slot_names t n m k) e }
 
 -- 17 from the counts
-pub once_root : (named : List ℕ) (n : ℕ) → n ≡ 0 → true ≡ named_once named n
-unfolding named_once
-once_root named n e = sym (ap (named_once named) e)
+pub once_root : (named : List ℕ) → Good ≡ named_fault named 0
+unfolding named_once named_fault
+once_root named = unless_true _ _ refl
 
-pub once_other : (named : List ℕ) (n : ℕ) → (n ≡ 0 → ⊥) → eqb (get_or named n 0) 1 ≡ named_once named n
+once_other : (named : List ℕ) (n : ℕ) → 1 ≤ n → named_once named n ≡ eqb (get_or named n 0) 1
 unfolding named_once
-once_other named zero h = absurd (h refl)
+once_other named zero h = absurd (omega arith)
 once_other named (suc n) h = refl
 
-pub named_passed : (named : List ℕ) (n : ℕ) (u : Bool) → u ≡ named_once named n → u ≡ true → Good ≡ named_fault named n
+pub once_passed : (named : List ℕ) (n : ℕ) → 1 ≤ n → get_or named n 0 ≡ 1 → Good ≡ named_fault named n
 unfolding named_fault
-named_passed named n u e f = unless_true _ _ (sym e ∙ f)
+once_passed named n h e = unless_true _ _ (once_other named n h ∙ eq-eqb (get_or named n 0) 1 e)
 
-pub named_refused : (named : List ℕ) (n : ℕ) (u : Bool) → u ≡ named_once named n → u ≡ false → Refused (NotOneParent n) ≡ named_fault named n
+pub once_refused : (named : List ℕ) (n : ℕ) → 1 ≤ n → (get_or named n 0 ≡ 1 → ⊥) → Refused (NotOneParent n) ≡ named_fault named n
 unfolding named_fault
-named_refused named n u e f = unless_false _ _ (sym e ∙ f)
+once_refused named n h e = unless_false _ _ (once_other named n h ∙ ne_eqb (get_or named n 0) 1 e)
 
 -- the walk over the nodes that fills the counts
 pub record CountedTo (g t named : List ℕ) (n end : ℕ) : Type 0 where
@@ -242,7 +260,7 @@ pub counted_finish : (g t named : List ℕ) (n end : ℕ) → CountedTo g t name
 counted_finish g t named n end w h =
     let q : n ≡ end = omega (arith, w.done) in subst (λ (x : ℕ). Names g t x named) q w.names
 
-pub counted_known : (g t named : List ℕ) (n end : ℕ) → CountedTo g t named n end → n < end → T (known_word g t n)
+pub counted_known : (g t named : List ℕ) (n end : ℕ) → CountedTo g t named n end → n < end → known_word g t n ≡ true
 counted_known g t named n end w h = w.known.known n (omega (arith, w.end_is))
 
 -- verdicts that are the same one by one are the same in a row

@@ -11,19 +11,21 @@ use lib.Dec.{T, ltb, leb, eqb, eqb→eq, ltb→lt, lt→ltb, le→leb, T_not}
 use lib.ListN.{length, get_or, set, length-set}
 use lib.Seq.{get_or-set_same, get_or-set_other}
 use borrow.Author.Tests.{le-ltb, lt-leb, eq-eqb, ne_eqb}
+use Rattle.std.specs.Prelude.{Result, Ok, Err, IsErr, MatchResult}
 use Rattle.basics.specs.Tests.{◌and◌, all, count}
 use Rattle.basics.specs.Lists.{word}
 use Rattle.basics.proofs.CountingLaws.{count_up}
 use Rattle.basics.proofs.TestLaws.{same_test, same_or_not, below_or_not, below_suc, eq_T, true_T, false_T, chosen, passed_over, and_passed, and_failed, and_intro, and_left, and_right, all_at, all_intro}
-use Rattle.grammar.specs.declared.Verdict.TheVariants.{Good}
+use Rattle.grammar.specs.Verdicts.{Good}
 use Rattle.grammar.specs.Limits.{most_rules}
+use Rattle.access.specs.Offsets.{offsets_for}
 use Rattle.grammar.specs.Table.{symbols, rules, nonterminal, length_at, rule_at, right_length, symbol_of}
 use Rattle.grammar.specs.Reading.{read_table}
 use Rattle.grammar.proofs.AcceptedTable.{accepted}
 use Rattle.grammar.proofs.VerdictLaws.{then_first, then_second, then_good, unless_passes, unless_good}
 use Rattle.trees.specs.Tree.{terminal_mark, nodes, rule_of, applies_rule, child, used_slots, symbol_at_node}
 use Rattle.trees.specs.Checking.{known_word, slot_fits, slots_fit, node_fault}
-use Rattle.checking.specs.Walk.{Ready, slot_names, unused_word, unused_empty, no_symbol, wrong, OnNode, is_new, Writing, Kept, Fresh, Written, Refuses, AtRule, AtTerminal, NodeFits, NodeRead, Unread}
+use Rattle.checking.specs.Walk.{slot_names, unused_word, unused_empty, no_symbol, OnNode, is_new, Writing, Kept, Fresh, Written, Refuses, AtRule, AtTerminal, NodeFits, NodeRead, Unread}
 use Rattle.checking.proofs.NodeTestLaws.{starts_there, rule_room, few_rules, known_rule, known_terminal, known_nothing, used_none, symbol_terminal}
 use Rattle.checking.proofs.NameLaws.{slot_count}
 
@@ -48,8 +50,8 @@ module _ (t : List ℕ) (n used : ℕ) where
   pub sum_start : SumTo t n used 0 0
   sum_start = record { done = omega arith; low = omega arith; nothing = λ e k l. absurd (not-suc-le-zero l); back = λ h. refl }
 
-  pub sum_turn : (sum i w : ℕ) → SumTo t n used sum i → i < 7 → w ≡ unused_word t n (i + 1) used → w < 65536 → SumTo t n used (sum + w) (i + 1)
-  sum_turn sum i w s h e l =
+  sum_more : (sum i w : ℕ) → SumTo t n used sum i → i < 7 → w ≡ unused_word t n (i + 1) used → w < 65536 → SumTo t n used (sum + w) (i + 1)
+  sum_more sum i w s h e l =
       let q : i + 1 ≡ suc i = omega arith in
       let f : w ≡ unused_word t n (suc i) used = e ∙ ap (λ (k : ℕ). unused_word t n k used) q in
       record {
@@ -61,9 +63,16 @@ module _ (t : List ℕ) (n used : ℕ) where
         back = λ b. let z : sum ≡ 0 = s.back (λ k m. b k (omega arith)) in omega (arith, f, b i (omega arith));
       }
 
-  pub sum_end : (sum i : ℕ) → SumTo t n used sum i → 7 ≤ i → eqb sum 0 ≡ unused_empty t n used
+  -- slot i comes after the slots that are counted so far
+  pub sum_turn : (sum i w : ℕ) → SumTo t n used sum (i - 1) → 1 ≤ i → i < 8 → w ≡ unused_word t n i used → w < 65536 → SumTo t n used (sum + w) (i + 1 - 1)
+  sum_turn sum i w s b h e l =
+      let q : i ≡ i - 1 + 1 = omega arith in
+      let r : i - 1 + 1 ≡ i + 1 - 1 = omega arith in
+      subst (λ (k : ℕ). SumTo t n used (sum + w) k) r (sum_more sum (i - 1) w s (omega arith) (e ∙ ap (λ (k : ℕ). unused_word t n k used) q) l)
+
+  sum_all : (sum i : ℕ) → SumTo t n used sum i → 7 ≤ i → eqb sum 0 ≡ unused_empty t n used
   unfolding unused_empty
-  sum_end sum i s h =
+  sum_all sum i s h =
       let q : i ≡ 7 = omega (arith, s.done) in
       same_test (eqb sum 0) (all 7 (λ i. eqb (unused_word t n (suc i) used) 0))
       (λ y.
@@ -72,20 +81,37 @@ module _ (t : List ℕ) (n used : ℕ) where
       eq_T sum 0
       (s.back (λ k l. eqb→eq (unused_word t n (suc k) used) 0 (all_at 7 (λ i. eqb (unused_word t n (suc i) used) 0) y k (omega arith)))))
 
+  pub sum_end : (sum i : ℕ) → SumTo t n used sum (i - 1) → 8 ≤ i → eqb sum 0 ≡ unused_empty t n used
+  sum_end sum i s h = sum_all sum (i - 1) s (omega arith)
+
 -- ---- the symbols of the children
 
 module _ (wanted t : List ℕ) (n c : ℕ) where
-  pub new_low : c ≤ n → false ≡ is_new wanted t n c
+  low : c ≤ n → false ≡ is_new wanted t n c
   unfolding is_new
-  new_low h = sym (and_failed _ _ (false_T _ (le-ltb n c h)))
+  low h = sym (and_failed _ _ (false_T _ (le-ltb n c h)))
 
-  pub new_past : n < c → nodes t ≤ c → false ≡ is_new wanted t n c
+  past : n < c → nodes t ≤ c → false ≡ is_new wanted t n c
   unfolding is_new
-  new_past h l = sym (and_passed _ _ (lt→ltb n c h) ∙ and_failed _ _ (false_T _ (le-ltb c (nodes t) l)))
+  past h l = sym (and_passed _ _ (lt→ltb n c h) ∙ and_failed _ _ (false_T _ (le-ltb c (nodes t) l)))
 
-  pub new_tested : n < c → c < nodes t → eqb (get_or wanted c 0) 255 ≡ is_new wanted t n c
+  tested_new : n < c → c < nodes t → eqb (get_or wanted c 0) 255 ≡ is_new wanted t n c
   unfolding is_new
-  new_tested h l = sym (and_passed _ _ (lt→ltb n c h) ∙ and_passed _ _ (lt→ltb c (nodes t) l))
+  tested_new h l = sym (and_passed _ _ (lt→ltb n c h) ∙ and_passed _ _ (lt→ltb c (nodes t) l))
+
+  -- as the code joins its tests
+  pub new_low : (u : Bool) → c ≤ n → u ≡ ltb n c → u ≡ is_new wanted t n c
+  new_low u h e = e ∙ (le-ltb n c h ∙ low h)
+
+  pub new_none : (u : Bool) → c ≤ n → u ≡ ltb n c → u ≡ true → eqb (get_or wanted c 0) 255 ≡ is_new wanted t n c
+  new_none u h e f = absurd (T_not (ltb n c) (false_T _ (le-ltb n c h)) (true_T _ (sym e ∙ f)))
+
+  pub new_past : (u : Bool) → n < c → u ≡ ltb c (nodes t) → u ≡ false → u ≡ is_new wanted t n c
+  new_past u h e f =
+      ⊎_elim (λ l. absurd (T_not (ltb c (nodes t)) (false_T _ (sym e ∙ f)) (lt→ltb c (nodes t) l))) (λ l. f ∙ past h l) (below_or_not c (nodes t))
+
+  pub new_tested : (u : Bool) → n < c → u ≡ ltb c (nodes t) → u ≡ true → eqb (get_or wanted c 0) 255 ≡ is_new wanted t n c
+  new_tested u h e f = tested_new h (ltb→lt c (nodes t) (true_T _ (sym e ∙ f)))
 
   module _ (u : Bool) (e : u ≡ is_new wanted t n c) (f : u ≡ true) where
     new_T : T (ltb n c and ltb c (nodes t) and eqb (word wanted c) no_symbol)
@@ -260,14 +286,14 @@ used_names t n used i h = omega (arith, slot_named t n i, slots_up t n (child t 
 -- a node above for which something is written is not new
 pub new_not : (wanted t : List ℕ) (n c : ℕ) → is_new wanted t n c ≡ false → n < c → c < nodes t → word wanted c ≡ no_symbol → ⊥
 new_not wanted t n c e h l z =
-    T_not (is_new wanted t n c) (false_T _ e) (subst (λ (b : Bool). T b) (new_tested wanted t n c h l) (eq_T (word wanted c) no_symbol z))
+    T_not (is_new wanted t n c) (false_T _ e) (subst (λ (b : Bool). T b) (tested_new wanted t n c h l) (eq_T (word wanted c) no_symbol z))
 
 module _ (entry g t : List ℕ) (n p used : ℕ) (now : List ℕ) (i : ℕ) (w : WrittenTo entry g t n p used now i) (h : i < used) where
   taken_why : (c : ℕ) → c ≡ child t n (suc i) → n < c → c < nodes t → (word now c ≡ no_symbol → ⊥)
       → (is_new entry t n (child t n (suc i)) ≡ false) ⊎ (2 ≤ slot_names t n (child t n (suc i)) used)
   taken_why c q a l d =
       ⊎_elim
-      (λ k. inl (ap (is_new entry t n) (sym q) ∙ (sym (new_tested entry t n c a l) ∙ ne_eqb (word entry c) no_symbol (λ z. d (k.same ∙ z)))))
+      (λ k. inl (ap (is_new entry t n) (sym q) ∙ (sym (tested_new entry t n c a l) ∙ ne_eqb (word entry c) no_symbol (λ z. d (k.same ∙ z)))))
       (λ k.
       let o : slot_names t n (child t n (suc i)) i ≡ 1 = subst (λ (x : ℕ). slot_names t n x i ≡ 1) q k.once in
       inr (omega (arith, slot_named t n i, slots_up t n (child t n (suc i)) (i + 1) used (omega arith))))
@@ -284,15 +310,9 @@ module _ (entry g t : List ℕ) (n p used : ℕ) (now : List ℕ) (i : ℕ) (w :
             ⊎_elim
             (λ a.
             ⊎_elim (λ l. taken_why c q a l (new_not now t n c (sym new ∙ d) a l))
-            (λ l. inl (ap (is_new entry t n) (sym q) ∙ sym (new_past entry t n c a l))) (below_or_not c (nodes t)))
-            (λ a. inl (ap (is_new entry t n) (sym q) ∙ sym (new_low entry t n c a))) (below_or_not n c);
+            (λ l. inl (ap (is_new entry t n) (sym q) ∙ sym (past entry t n c a l))) (below_or_not c (nodes t)))
+            (λ a. inl (ap (is_new entry t n) (sym q) ∙ sym (low entry t n c a))) (below_or_not n c);
       }
-
-pub none_refused : (entry t : List ℕ) (n used : ℕ) → true ≡ false → Refuses entry t n used
-none_refused entry t n used e = absurd (let z : ◌≡◌ {A = ℕ} 1 0 = ap (λ (b : Bool). cond b 1 0) e in omega arith)
-
-pub never : (entry now g t : List ℕ) (n p used : ℕ) → false ≡ true → Written entry now g t n p used
-never entry now g t n p used e = absurd (let z : ◌≡◌ {A = ℕ} 0 1 = ap (λ (b : Bool). cond b 1 0) e in omega arith)
 
 -- ---- a node
 
@@ -415,10 +435,9 @@ module _ (before g t : List ℕ) (n p : ℕ) (w : AtRule before g t n p) where
         small_symbol g (word g p) w.good
         (subst⁻¹ (λ (x : ℕ). x < symbols g) left_is (((accepted g w.good).rule (rule_of t n) w.below).symbols_fit 0 (omega arith)))
 
-    pub rule_read : (after : List ℕ) (symbol : ℕ) (u v : Bool) → u ≡ unused_empty t n used → u ≡ true → (v ≡ true → Written before after g t n p used)
-        → v ≡ true → symbol ≡ get_or g p 0 → (symbol ≡ wrong → ⊥) → NodeRead before after g t n symbol
-    rule_read after symbol u v h i j k q d =
-        let z : Written before after g t n p used = j k in
+    pub rule_read : (after : List ℕ) (symbol : ℕ) (u : Bool) → u ≡ unused_empty t n used → u ≡ true → Written before after g t n p used
+        → symbol ≡ get_or g p 0 → NodeRead before after g t n symbol
+    rule_read after symbol u h i z q =
         record {
           fits = record {
             passes = node_passes g t n known (slots_pass g t n used used_is (sym h ∙ i) z.above z.inside);
@@ -430,41 +449,31 @@ module _ (before g t : List ℕ) (n p : ℕ) (w : AtRule before g t n p) where
               subst (λ (x : ℕ). Written before after g t n x (used_slots g t n)) w.rule (subst (λ (x : ℕ). Written before after g t n p x) used_is z);
         }
 
-    pub rule_filled : (u : Bool) → u ≡ unused_empty t n used → u ≡ false → wrong ≡ wrong → Unread before g t n
-    rule_filled u h i y = inl (not_empty g t n used u used_is h i)
+    pub rule_filled : (u : Bool) → u ≡ unused_empty t n used → u ≡ false → Unread before g t n
+    rule_filled u h i = inl (not_empty g t n used u used_is h i)
 
-    pub rule_refused : (v : Bool) → (v ≡ false → Refuses before t n used) → v ≡ false → wrong ≡ wrong → Unread before g t n
-    rule_refused v h i y = inr (subst (λ (x : ℕ). Refuses before t n x) used_is (h i))
+    pub rule_refused : Refuses before t n used → Unread before g t n
+    rule_refused r = inr (subst (λ (x : ℕ). Refuses before t n x) used_is r)
 
-    pub rule_always : (symbol : ℕ) → symbol ≡ get_or g p 0 → symbol ≡ wrong → Unread before g t n
-    rule_always symbol q y = absurd (omega (arith, left_small))
+pub few_below : (g : List ℕ) (r m : ℕ) → read_table g ≡ Good → m ≡ rules g → r < m → r < most_rules
+few_below g r m good e h = few_rules g r good (omega arith)
 
--- where there is no symbol, nothing is claimed
-pub none_read : (before after g t : List ℕ) (n : ℕ) → (wrong ≡ wrong → ⊥) → NodeRead before after g t n wrong
-none_read before after g t n d = absurd (d refl)
-
-pub none_fits : (g t : List ℕ) (n : ℕ) → (wrong ≡ wrong → ⊥) → NodeFits g t n wrong
-none_fits g t n d = absurd (d refl)
-
-pub few_below : (g offsets : List ℕ) (r m : ℕ) → Ready g offsets → m ≡ rules g → r < m → r < most_rules
-few_below g offsets r m w e h = few_rules g offsets r w (omega arith)
-
-pub at_rule : (wanted g offsets t : List ℕ) (n r m p : ℕ) → Ready g offsets → OnNode wanted t n → r ≡ get_or t (8 * n) 0 → r < terminal_mark → m ≡ rules g
+pub at_rule : (wanted g offsets t : List ℕ) (n r m p : ℕ) → read_table g ≡ Good → offsets ≡ offsets_for g Good → OnNode wanted t n → r ≡ get_or t (8 * n) 0 → r < terminal_mark → m ≡ rules g
     → r < m → p ≡ get_or offsets r 0 → AtRule wanted g t n p
-at_rule wanted g offsets t n r m p w on e h f l q =
+at_rule wanted g offsets t n r m p good placed on e h f l q =
     record {
-      good = w.good;
+      good = good;
       on = on;
       applies = subst (λ (x : ℕ). x < terminal_mark) e h;
       below = subst (λ (x : ℕ). x < rules g) e (subst (λ (x : ℕ). r < x) f l);
-      rule = q ∙ (starts_there g offsets r w (subst (λ (x : ℕ). r < x) f l) ∙ ap (rule_at g) e);
+      rule = q ∙ (starts_there g offsets r good placed (subst (λ (x : ℕ). r < x) f l) ∙ ap (rule_at g) e);
     }
 
-pub at_terminal : (wanted g offsets t : List ℕ) (n r : ℕ) → Ready g offsets → OnNode wanted t n → r ≡ get_or t (8 * n) 0 → terminal_mark ≤ r
+pub at_terminal : (wanted g t : List ℕ) (n r : ℕ) → read_table g ≡ Good → OnNode wanted t n → r ≡ get_or t (8 * n) 0 → terminal_mark ≤ r
     → AtTerminal g t n (r - terminal_mark)
-at_terminal wanted g offsets t n r w on e h =
+at_terminal wanted g t n r good on e h =
     record {
-      good = w.good;
+      good = good;
       node = on.node;
       there = on.there;
       mark = subst (λ (x : ℕ). terminal_mark ≤ x) e h;
@@ -472,8 +481,8 @@ at_terminal wanted g offsets t n r w on e h =
     }
 
 pub terminal_fits : (g t : List ℕ) (n x s : ℕ) (u v : Bool) → AtTerminal g t n x → s ≡ symbols g → x < s → u ≡ nonterminal g x → u ≡ false
-    → v ≡ unused_empty t n 0 → v ≡ true → (x ≡ wrong → ⊥) → NodeFits g t n x
-terminal_fits g t n x s u v w e h f i j k d =
+    → v ≡ unused_empty t n 0 → v ≡ true → NodeFits g t n x
+terminal_fits g t n x s u v w e h f i j k =
     let l : rule_of t n - terminal_mark < symbols g = omega (arith, w.terminal) in
     let z : 0 ≡ used_slots g t n = used_none g t n (rule_of t n) refl w.mark in
     record {
@@ -486,35 +495,38 @@ terminal_fits g t n x s u v w e h f i j k d =
     }
 
 module _ (g t : List ℕ) (n x s : ℕ) (w : AtTerminal g t n x) (e : s ≡ symbols g) where
-  pub terminal_past : s ≤ x → wrong ≡ wrong → node_fault g t n ≡ Good → ⊥
-  terminal_past h y =
-      not_known g t n (known_nothing g t n (rule_of t n) (symbols g) refl w.mark refl (omega (arith, w.terminal)))
+  pub terminal_past : s ≤ x → node_fault g t n ≡ Good → ⊥
+  terminal_past h =
+      not_known g t n (sym (le-ltb (rule_of t n - terminal_mark) (symbols g) (omega (arith, w.terminal))) ∙ known_nothing g t n (rule_of t n) (symbols g) refl w.mark refl (omega (arith, w.terminal)))
 
   module _ (u : Bool) (h : x < s) (f : u ≡ nonterminal g x) where
-    pub terminal_not : u ≡ true → wrong ≡ wrong → node_fault g t n ≡ Good → ⊥
-    terminal_not i y =
+    pub terminal_not : u ≡ true → node_fault g t n ≡ Good → ⊥
+    terminal_not i =
         not_known g t n
         (sym (ap not i)
         ∙ known_terminal g t n (rule_of t n) (symbols g) u refl w.mark refl (omega (arith, w.terminal)) (f ∙ ap (nonterminal g) w.terminal))
 
-  pub terminal_filled : (v : Bool) → v ≡ unused_empty t n 0 → v ≡ false → wrong ≡ wrong → node_fault g t n ≡ Good → ⊥
-  terminal_filled v f i y = not_empty g t n 0 v (used_none g t n (rule_of t n) refl w.mark) f i
+  pub terminal_filled : (v : Bool) → v ≡ unused_empty t n 0 → v ≡ false → node_fault g t n ≡ Good → ⊥
+  terminal_filled v f i = not_empty g t n 0 v (used_none g t n (rule_of t n) refl w.mark) f i
 
-  pub terminal_always : x < s → x ≡ wrong → node_fault g t n ≡ Good → ⊥
-  terminal_always h y z = omega (arith, small_symbol g x w.good (omega arith))
+pub unread_rule : (before g t : List ℕ) (n r m : ℕ) → r ≡ rule_of t n → r < terminal_mark → m ≡ rules g → m ≤ r → Unread before g t n
+unread_rule before g t n r m e h f l = inl (not_known g t n (sym (le-ltb r m l) ∙ known_rule g t n r m e h f))
 
-pub unread_terminal : (before g t : List ℕ) (n s : ℕ) → (s ≡ wrong → node_fault g t n ≡ Good → ⊥) → s ≡ wrong → Unread before g t n
-unread_terminal before g t n s h e = inl (h e)
-
-pub unread_rule : (before g t : List ℕ) (n r m : ℕ) → r ≡ rule_of t n → r < terminal_mark → m ≡ rules g → m ≤ r → wrong ≡ wrong → Unread before g t n
-unread_rule before g t n r m e h f l y = inl (not_known g t n (sym (le-ltb r m l) ∙ known_rule g t n r m e h f))
-
-pub terminal_read : (before g t : List ℕ) (n r s : ℕ) → r ≡ get_or t (8 * n) 0 → terminal_mark ≤ r → ((s ≡ wrong → ⊥) → NodeFits g t n s)
-    → (s ≡ wrong → ⊥) → NodeRead before before g t n s
-terminal_read before g t n r s e h f d =
+terminal_read : (before g t : List ℕ) (n r s : ℕ) → r ≡ get_or t (8 * n) 0 → terminal_mark ≤ r → NodeFits g t n s → NodeRead before before g t n s
+terminal_read before g t n r s e h f =
     let z : 0 ≡ used_slots g t n = used_none g t n r e h in
     record {
-      fits = f d;
+      fits = f;
       short = omega arith;
       written = subst (λ (x : ℕ). Written before before g t n (rule_at g (rule_of t n)) x) z (nothing_written before g t n (rule_at g (rule_of t n)));
     }
+
+pub terminal_reads : {E : Type 0} (before g t : List ℕ) (n r : ℕ) (s : Result ℕ E) → r ≡ get_or t (8 * n) 0 → terminal_mark ≤ r
+    → MatchResult s (λ x. NodeFits g t n x) (λ e. node_fault g t n ≡ Good → ⊥) → MatchResult s (λ x. NodeRead before before g t n x) (λ e. Unread before g t n)
+terminal_reads before g t n r (Ok x) e h f = terminal_read before g t n r x e h f
+terminal_reads before g t n r (Err x) e h f = inl f
+
+-- a walk that was not sure of a part is not sure of the whole
+pub still_unsure : {A E : Type 0} (r : Result A E) (P : A → Type 0) (Q : Type 0) → IsErr r → Q → MatchResult r P (λ _. Q)
+still_unsure (Ok x) P Q e q = absurd (cc)
+still_unsure (Err x) P Q e q = q

@@ -1,22 +1,14 @@
 -- What the walks over a tree are handed and hand on.
 -- For proofs of the code: no demand rests on it. Assumes nothing.
-use Rattle.std.specs.Prelude.{ℕ, zero, suc, ◌+◌, ◌*◌, ◌-◌, ◌≤◌, ◌<◌, ◌≡◌, ◌⊎◌, Bool, true, false, cond, List, T, ltb, leb, eqb, length}
+use Rattle.std.specs.Prelude.{ℕ, zero, suc, ◌+◌, ◌*◌, ◌-◌, ◌≤◌, ◌<◌, ◌≡◌, ◌⊎◌, Bool, true, false, cond, IsTrue, Option, Some, None, IfSome, List, ltb, leb, eqb, length}
 use Rattle.basics.specs.Tests.{◌and◌, all, count}
 use Rattle.basics.specs.Lists.{word}
 use Rattle.refusals.specs.declared.Refusal.TheVariants.{ChildDiffers, NotOneParent}
-use Rattle.grammar.specs.declared.Verdict.{Verdict}
-use Rattle.grammar.specs.declared.Verdict.TheVariants.{Good}
-use Rattle.grammar.specs.Verdicts.{unless, each}
+use Rattle.grammar.specs.Verdicts.{Verdict, Good, unless, each}
 use Rattle.grammar.specs.Reading.{read_table}
-use Rattle.access.specs.Offsets.{offsets_for}
 use Rattle.grammar.specs.Table.{rules, start, rule_at, symbol_of}
 use Rattle.trees.specs.Tree.{most_nodes, terminal_mark, nodes, rule_of, child, used_slots, symbol_at_node}
 use Rattle.trees.specs.Checking.{known_word, node_fault, root_is_start, children_fit, names_node, once_child}
-
--- the grammar was accepted, and the offsets are those of its rules
-pub record Ready (g offsets : List ℕ) : Type 0 where
-  pub good : read_table g ≡ Good
-  pub offsets_are : offsets ≡ offsets_for g Good
 
 -- 14 at slot i of a node that uses so many slots
 unfoldable pub slot_test : List ℕ → ℕ → ℕ → ℕ → Bool
@@ -32,7 +24,7 @@ slot_tests t n used = slot_tests_to t n used 7
 -- the first walk passed: every node is known and its used slots name nodes
 pub record Known (g t : List ℕ) : Type 0 where
   pub few : nodes t ≤ most_nodes
-  pub known : (n : ℕ) → n < nodes t → T (known_word g t n)
+  pub known : (n : ℕ) → n < nodes t → IsTrue (known_word g t n)
   pub inside : (n i : ℕ) → n < nodes t → 1 ≤ i → i ≤ used_slots g t n → child t n i < nodes t
 
 -- slot i of node n is used, and p is where the node's rule starts
@@ -106,10 +98,6 @@ unused_empty t n used = all 7 (λ i. eqb (unused_word t n (suc i) used) 0)
 -- stands for a symbol where there is none
 abbrev pub no_symbol : ℕ
 no_symbol = 255
-
--- stands for the symbol of a node that is wrong, and is more than can be written down
-abbrev pub wrong : ℕ
-wrong = 256
 
 -- node n of a tree, with a symbol or none written down for each node
 pub record OnNode (wanted t : List ℕ) (n : ℕ) : Type 0 where
@@ -188,14 +176,10 @@ pub record NodeRead (before after g t : List ℕ) (n symbol : ℕ) : Type 0 wher
 abbrev pub Unread : List ℕ → List ℕ → List ℕ → ℕ → Type 0
 Unread before g t n = (node_fault g t n ≡ Good → ⊥) ⊎ Refuses before t n (used_slots g t n)
 
--- the answer of a walk that is not sure
-abbrev pub unsure : ℕ
-unsure = 1025
-
--- the first node without a parent, with node n of this symbol, where `orphan` was found before it and this symbol is written down for it
-unfoldable pub orphan_after : ℕ → ℕ → ℕ → ℕ → ℕ → ℕ
-orphan_after orphan end n symbol written =
-    cond (eqb written symbol) orphan (cond (eqb symbol wrong) unsure (cond (eqb written no_symbol) (cond (ltb orphan end) orphan n) unsure))
+-- where the first node without a parent stands, the end where there is none
+abbrev pub place : Option ℕ → ℕ → ℕ
+place (Some k) end = k
+place None end = end
 
 -- what the first n nodes have named: nobody node m, or one slot
 pub record Nobody (g t wanted : List ℕ) (n m : ℕ) : Type 0 where
@@ -207,14 +191,13 @@ pub record Somebody (g t wanted : List ℕ) (n m : ℕ) : Type 0 where
   pub once : count (8 * n) (λ k. names_node g t m k) ≡ 1
 
 -- After n nodes: all passed 13 and 14, what they want of their children is written down, and a node whose symbol is not the one written has no parent;
--- `orphan` is the first such, or the end.
-pub record Walked (g t wanted : List ℕ) (n orphan end : ℕ) : Type 0 where
+-- `orphan` is the first such.
+pub record Walked (g t wanted : List ℕ) (n : ℕ) (orphan : Option ℕ) (end : ℕ) : Type 0 where
   pub good : read_table g ≡ Good
   pub end_is : end ≡ nodes t
   pub some : 1 ≤ end
   pub few : end ≤ most_nodes
   pub done : n ≤ end
-  pub inside : orphan ≤ end
   pub size : length wanted ≡ most_nodes
   pub root : word wanted 0 ≡ start g
   pub passes : (k : ℕ) → k < n → node_fault g t k ≡ Good
@@ -223,8 +206,8 @@ pub record Walked (g t wanted : List ℕ) (n orphan end : ℕ) : Type 0 where
   pub symbol : (k i : ℕ) → k < n → i < used_slots g t k → word wanted (child t k (suc i)) ≡ symbol_of g (rule_of t k) (suc i)
   pub taken : (k i : ℕ) → k < n → i < used_slots g t k → word wanted (child t k (suc i)) < no_symbol
   pub seen : (k : ℕ) → k < n → (word wanted k ≡ symbol_at_node g t k) ⊎ (word wanted k ≡ no_symbol)
-  pub before : (k : ℕ) → k < n → k < orphan → word wanted k < no_symbol
-  pub orphan_is : (orphan ≡ end) ⊎ ((orphan < n) × (word wanted orphan ≡ no_symbol))
+  pub before : (k : ℕ) → k < n → k < place orphan end → word wanted k < no_symbol
+  pub orphan_is : IfSome orphan (λ k. (k < n) × (word wanted k ≡ no_symbol))
 
 -- the tree passes 13 to 16, and no node is a child twice
 pub record Apart (g t : List ℕ) : Type 0 where
@@ -233,8 +216,8 @@ pub record Apart (g t : List ℕ) : Type 0 where
   pub children : each (nodes t) (λ n. unless (children_fit g t n) (ChildDiffers n)) ≡ Good
   pub once : (m : ℕ) → 1 ≤ m → m < nodes t → count (8 * nodes t) (λ k. names_node g t m k) ≤ 1
 
--- and each node before this one is a child exactly once, but this one is not
-pub record OneWalk (g t : List ℕ) (orphan : ℕ) : Type 0 where
+-- and each node before this one is a child exactly once, but this one is not, or each node is where there is none
+pub record OneWalk (g t : List ℕ) (orphan : Option ℕ) : Type 0 where
   pub apart : Apart g t
-  pub parents : each orphan (λ n. unless (once_child g t n) (NotOneParent n)) ≡ Good
-  pub lost : orphan < nodes t → once_child g t orphan ≡ false
+  pub parents : each (place orphan (nodes t)) (λ n. unless (once_child g t n) (NotOneParent n)) ≡ Good
+  pub lost : IfSome orphan (λ k. (k < nodes t) × (once_child g t k ≡ false))

@@ -5,16 +5,15 @@
 mod nodes;
 mod one_walk;
 
-ghost use Rattle.std.specs.Prelude.{◌≡◌, ◌+◌, ◌*◌, ◌≤◌, ◌<◌, true, leb, length};
+ghost use Rattle.std.specs.Prelude.{◌≡◌, ◌+◌, ◌*◌, ◌≤◌, ◌<◌, IsTrue, leb, length};
 ghost use Rattle.refusals.specs.declared.Refusal.TheVariants.{ValuesTooShort};
-ghost use Rattle.grammar.specs.declared.Verdict.TheVariants.{Good};
-ghost use Rattle.grammar.specs.Verdicts.{unless, each};
+ghost use Rattle.grammar.specs.Verdicts.{unless};
 ghost use Rattle.trees.specs.Tree as tree;
 ghost use Rattle.trees.specs.Checking as check;
 ghost use Rattle.checking.specs.Walk as walk;
 
-use access::known;
-use grammar::{Offsets, Verdict};
+use access::Table;
+use one_walk::Unsure;
 use refusals::Refusal;
 use trees::MOST_NODES;
 
@@ -26,43 +25,7 @@ fn size_fits(t: &[u16]) -> bool
     ensures { result ≡ check.size_fits t.now }
 {
     let nodes = t.len() / 8;
-    if t.len() % 8 == 0 {
-        if 1 <= nodes {
-            return nodes <= MOST_NODES;
-        }
-    }
-    false
-}
-
-// The walk up the nodes for 13 and 14.
-fn nodes_fault(words: &[u16], offsets: &Offsets, t: &[u16], nodes: usize) -> Verdict
-    requires ready { walk.Ready words.now offsets.now }
-    requires nodes_le_most_nodes { (nodes ≤ tree.most_nodes) × (nodes ≤ tree.nodes t.now) }
-    ensures { result ≡ each nodes (λ n. check.node_fault words.now t.now n) }
-{
-    for n in 0..nodes {
-        let fault = nodes::node_fault(words, offsets, t, n);
-        let Verdict::Good = fault else {
-            return fault;
-        };
-    }
-    Verdict::Good
-}
-
-// The walk for 16.
-fn children_fault(words: &[u16], offsets: &Offsets, t: &[u16], nodes: usize) -> Verdict
-    requires ready { walk.Ready words.now offsets.now }
-    requires known { walk.Known words.now t.now }
-    requires nodes_value { nodes ≡ tree.nodes t.now }
-    ensures { result ≡ each nodes (λ n. walk.children_fault words.now t.now n) }
-{
-    for n in 0..nodes {
-        let fault = nodes::child_fault(words, offsets, t, n);
-        let Verdict::Good = fault else {
-            return fault;
-        };
-    }
-    Verdict::Good
+    t.len() % 8 == 0 && 1 <= nodes && nodes <= MOST_NODES
 }
 
 // Counts each used slot of node n for the node that it names.
@@ -70,113 +33,71 @@ fn name_children(named: &mut [u16], t: &[u16], n: usize, used: usize)
     requires { walk.Naming named.old t.now n used }
     ensures { walk.NamedMore named.old named.new t.now n used }
 {
-    for i in 0..used {
-        let child = known(t, 8 * n + i + 1);
-        named[child] = named[child] + 1;
+    for &child in &t[8 * n + 1..8 * n + 1 + used] {
+        named[child as usize] += 1;
     }
 }
 
 // How often each node is named as a child.
-fn count_names(words: &[u16], offsets: &Offsets, t: &[u16], nodes: usize) -> Names
-    requires ready { walk.Ready words.now offsets.now }
-    requires known { walk.Known words.now t.now }
+fn count_names(table: &Table<'_>, t: &[u16], nodes: usize) -> Names
+    requires known { walk.Known table.now.words.now t.now }
     requires nodes_value { nodes ≡ tree.nodes t.now }
-    ensures { walk.Names words.now t.now nodes result }
+    ensures { walk.Names table.now.words.now t.now nodes result }
 {
     let mut named = [0u16; MOST_NODES];
     for n in 0..nodes {
-        name_children(&mut named, t, n, nodes::used_slots(words, offsets, t, n));
+        name_children(&mut named, t, n, nodes::used_slots(table, t, n));
     }
     named
 }
 
-// 17 at node n; the root has no parent.
-fn named_once(named: &Names, n: usize) -> bool
-    requires { n < tree.most_nodes }
-    ensures { result ≡ walk.named_once named.now n }
-{
-    if n == 0 {
-        return true;
-    }
-    named[n] == 1
-}
-
-fn name_fault(named: &Names, n: usize) -> Verdict
-    requires { n < tree.most_nodes }
-    ensures { result ≡ walk.named_fault named.now n }
-{
-    if named_once(named, n) {
-        return Verdict::Good;
-    }
-    Verdict::Refused(Refusal::NotOneParent(n))
-}
-
-// The walk for 17.
-fn names_fault(named: &Names, nodes: usize) -> Verdict
-    requires { nodes ≤ tree.most_nodes }
-    ensures { result ≡ each nodes (λ n. walk.named_fault named.now n) }
-{
-    for n in 0..nodes {
-        let fault = name_fault(named, n);
-        let Verdict::Good = fault else {
-            return fault;
-        };
-    }
-    Verdict::Good
-}
-
 // 18: eight values for each node.
-fn values_fault(nodes: usize, values: usize) -> Verdict
+fn values_fault(nodes: usize, values: usize) -> Result<(), Refusal>
     requires { nodes ≤ tree.most_nodes }
     ensures { result ≡ unless (leb (8 * nodes) values) ValuesTooShort }
 {
     if values < 8 * nodes {
-        return Verdict::Refused(Refusal::ValuesTooShort);
+        return Err(Refusal::ValuesTooShort);
     }
-    Verdict::Good
+    Ok(())
 }
 
 // The check walk by walk, of a tree that passed 12.
-fn by_walks(words: &[u16], offsets: &Offsets, t: &[u16], values: usize) -> Verdict
-    requires ready { walk.Ready words.now offsets.now }
-    requires true_value { true ≡ check.size_fits t.now }
-    ensures { result ≡ check.check_tree words.now t.now values }
+fn by_walks(table: &Table<'_>, t: &[u16], values: usize) -> Result<(), Refusal>
+    requires { IsTrue (check.size_fits t.now) }
+    ensures { result ≡ check.check_tree table.now.words.now t.now values }
 {
     let nodes = t.len() / 8;
-    let first = nodes_fault(words, offsets, t, nodes);
-    let Verdict::Good = first else {
-        return first;
-    };
-    if nodes::symbol_at_node(words, offsets, t, 0) != access::start(words) {
-        return Verdict::Refused(Refusal::RootNotStart);
+    for n in 0..nodes {
+        nodes::node_fault(table, t, n)?;
     }
-    let second = children_fault(words, offsets, t, nodes);
-    let Verdict::Good = second else {
-        return second;
-    };
-    let named = count_names(words, offsets, t, nodes);
-    let third = names_fault(&named, nodes);
-    let Verdict::Good = third else {
-        return third;
-    };
+    if nodes::symbol_at_node(table, t, 0) != access::start(table.words) {
+        return Err(Refusal::RootNotStart);
+    }
+    for n in 0..nodes {
+        nodes::child_fault(table, t, n)?;
+    }
+    let named = count_names(table, t, nodes);
+    // The root has no parent.
+    for n in 1..nodes {
+        if named[n] != 1 {
+            return Err(Refusal::NotOneParent(n));
+        }
+    }
     values_fault(nodes, values)
 }
 
 // The whole check, with values of this length.
-pub fn check(words: &[u16], offsets: &Offsets, t: &[u16], values: usize) -> Verdict
-    requires { walk.Ready words.now offsets.now }
-    ensures { result ≡ check.check_tree words.now t.now values }
+pub fn check(table: &Table<'_>, t: &[u16], values: usize) -> Result<(), Refusal>
+    ensures { result ≡ check.check_tree table.now.words.now t.now values }
 {
     if !size_fits(t) {
-        return Verdict::Refused(Refusal::TreeSize);
+        return Err(Refusal::TreeSize);
     }
     let nodes = t.len() / 8;
-    let orphan = one_walk::first_orphan(words, offsets, t, nodes);
-    if orphan < nodes {
-        return Verdict::Refused(Refusal::NotOneParent(orphan));
+    match one_walk::first_orphan(table, t, nodes) {
+        Ok(None) => values_fault(nodes, values),
+        Ok(Some(orphan)) => Err(Refusal::NotOneParent(orphan)),
+        Err(Unsure) => by_walks(table, t, values),
     }
-    if orphan == nodes {
-        return values_fault(nodes, values);
-    }
-    by_walks(words, offsets, t, values)
 }

@@ -1,26 +1,23 @@
 // One walk up the nodes that is enough for a tree that passes 13 to 16 and has no node that is a child twice: it finds the first node without a parent.
 // A parent stands before its children, so each node finds written down which symbol its parent's rule wants there. Of any other tree the walk is not sure,
 // and the walks of their own find the first fault.
-ghost use Rattle.std.specs.Prelude.{◌≡◌, true, false, ◌+◌, ◌*◌, ◌≤◌, ◌<◌, length};
+ghost use Rattle.std.specs.Prelude.{◌≡◌, ◌+◌, ◌*◌, ◌≤◌, ◌<◌, MatchResult, length};
 ghost use Rattle.basics.specs.Lists.{word};
-ghost use Rattle.grammar.specs.declared.Verdict.TheVariants.{Good};
+ghost use Rattle.grammar.specs.Verdicts.{Good};
 ghost use Rattle.trees.specs.Tree as tree;
 ghost use Rattle.trees.specs.Checking as check;
 ghost use Rattle.checking.specs.Walk as walk;
 
 use super::nodes::{nonterminal, right_length};
-use access::known;
-use grammar::Offsets;
+use access::{Table, known};
 use trees::{MOST_NODES, TERMINAL_MARK};
 
 // Stands for a symbol where nothing is written down.
-const NO_SYMBOL: usize = 255;
+const NO_SYMBOL: u8 = 255;
 
-// Stands for the symbol of a node that is wrong: more than can be written down, so one test of a node's symbol finds both.
-const WRONG: usize = 256;
-
-// More than any number of nodes: the answer of a walk that is not sure.
-const UNSURE: usize = 1025;
+// The answer of a walk that is not sure: the tree has another fault in 13 to 17 than a node without a parent.
+#[derive(Drop)]
+pub struct Unsure;
 
 // Slot i of node n where it is not used, else 0.
 fn unused_word(t: &[u16], n: usize, i: usize, used: usize) -> usize
@@ -34,32 +31,16 @@ fn unused_word(t: &[u16], n: usize, i: usize, used: usize) -> usize
     known(t, 8 * n + i)
 }
 
-// Whether the slots of node n that are not used are zero: they are added up, so one test is enough.
+// Whether the slots of node n that are not used are zero: they are added up, so one test is enough, which takes less time than a test of each.
 fn unused_empty(t: &[u16], n: usize, used: usize) -> bool
     requires { (n < tree.most_nodes) × (n < tree.nodes t.now) }
     ensures { result ≡ walk.unused_empty t.now n used }
 {
     let mut sum: usize = 0;
-    for i in 0..7usize {
-        sum = sum + unused_word(t, n, i + 1, used);
+    for i in 1..8 {
+        sum += unused_word(t, n, i, used);
     }
     sum == 0
-}
-
-// A symbol as it is written down.
-fn narrow(x: usize) -> u8
-    requires { x < 256 }
-    ensures { result ≡ x }
-{
-    x as u8
-}
-
-// Symbol i + 1 of the rule at word p, as it is written down.
-fn child_symbol(words: &[u16], p: usize, i: usize) -> u8
-    requires { (p + 2 + i < length words.now) × (word words.now (p + 2 + i) < walk.no_symbol) }
-    ensures { result ≡ word words.now (p + 2 + i) }
-{
-    narrow(known(words, p + 2 + i))
 }
 
 // Whether a slot of node n names a node above it that no slot named before.
@@ -67,169 +48,130 @@ fn is_new(wanted: &[u8], t: &[u16], n: usize, child: usize) -> bool
     requires { walk.OnNode wanted.now t.now n }
     ensures { result ≡ walk.is_new wanted.now t.now n child }
 {
-    if child <= n {
-        return false;
-    }
-    if child >= t.len() / 8 {
-        return false;
-    }
-    wanted[child] == 255
+    n < child && child < t.len() / 8 && wanted[child] == NO_SYMBOL
 }
 
 // Writes down for each child of node n the symbol that the rule at word p has there. Fails where a slot names no new node above.
 fn write_children(
     wanted: &mut [u8],
-    words: &[u16],
+    table: &Table<'_>,
     t: &[u16],
     n: usize,
     p: usize,
     used: usize,
-) -> bool
-    requires { walk.Writing wanted.old words.now t.now n p used }
-    ensures written { result ≡ true → walk.Written wanted.old wanted.new words.now t.now n p used }
-    ensures refuses { result ≡ false → walk.Refuses wanted.old t.now n used }
+) -> Result<(), Unsure>
+    requires { walk.Writing wanted.old table.now.words.now t.now n p used }
+    ensures { MatchResult result (λ _. walk.Written wanted.old wanted.new table.now.words.now t.now n p used) (λ _. walk.Refuses wanted.old t.now n used) }
 {
-    for i in 0..used {
-        let child = known(t, 8 * n + i + 1);
+    for (i, &child) in t[8 * n + 1..8 * n + 1 + used].iter().enumerate() {
+        let child = child as usize;
         if !is_new(wanted, t, n, child) {
-            return false;
+            return Err(Unsure);
         }
-        wanted[child] = child_symbol(words, p, i);
+        wanted[child] = known(table.words, p + 2 + i) as u8;
     }
-    true
+    Ok(())
 }
 
 // The symbol of node n, which applies the rule at word p.
-fn rule_symbol(wanted: &mut [u8], words: &[u16], t: &[u16], n: usize, p: usize) -> usize
-    requires { walk.AtRule wanted.old words.now t.now n p }
-    ensures node_read { (result ≡ walk.wrong → ⊥) → walk.NodeRead wanted.old wanted.new words.now t.now n result }
-    ensures unread { result ≡ walk.wrong → walk.Unread wanted.old words.now t.now n }
+fn rule_symbol(
+    wanted: &mut [u8],
+    table: &Table<'_>,
+    t: &[u16],
+    n: usize,
+    p: usize,
+) -> Result<usize, Unsure>
+    requires { walk.AtRule wanted.old table.now.words.now t.now n p }
+    ensures { MatchResult result (λ x. walk.NodeRead wanted.old wanted.new table.now.words.now t.now n x)
+        (λ _. walk.Unread wanted.old table.now.words.now t.now n) }
 {
-    let used = right_length(words, p);
+    let used = right_length(table, p);
     if !unused_empty(t, n, used) {
-        return WRONG;
+        return Err(Unsure);
     }
-    if !write_children(wanted, words, t, n, p, used) {
-        return WRONG;
-    }
-    known(words, p)
+    write_children(wanted, table, t, n, p, used)?;
+    Ok(known(table.words, p))
 }
 
 // The symbol of node n, which is terminal x if there is one.
-fn terminal_symbol(words: &[u16], t: &[u16], n: usize, x: usize) -> usize
-    requires { walk.AtTerminal words.now t.now n x }
-    ensures node_fits { (result ≡ walk.wrong → ⊥) → walk.NodeFits words.now t.now n result }
-    ensures fact { result ≡ walk.wrong → check.node_fault words.now t.now n ≡ Good → ⊥ }
+fn terminal_symbol(table: &Table<'_>, t: &[u16], n: usize, x: usize) -> Result<usize, Unsure>
+    requires { walk.AtTerminal table.now.words.now t.now n x }
+    ensures { MatchResult result (λ y. walk.NodeFits table.now.words.now t.now n y)
+        (λ _. check.node_fault table.now.words.now t.now n ≡ Good → ⊥) }
 {
-    if x >= access::symbols(words) {
-        return WRONG;
+    if x >= access::symbols(table.words) || nonterminal(table, x) || !unused_empty(t, n, 0) {
+        return Err(Unsure);
     }
-    if nonterminal(words, x) {
-        return WRONG;
-    }
-    if !unused_empty(t, n, 0) {
-        return WRONG;
-    }
-    x
+    Ok(x)
 }
 
 // The symbol of node n, whose first word r is below the mark of terminals.
 fn applied_symbol(
     wanted: &mut [u8],
-    words: &[u16],
-    offsets: &Offsets,
+    table: &Table<'_>,
     t: &[u16],
     n: usize,
     r: usize,
-) -> usize
-    requires ready { walk.Ready words.now offsets.now }
+) -> Result<usize, Unsure>
     requires on_node { walk.OnNode wanted.old t.now n }
     requires r_value { (r ≡ tree.rule_of t.now n) × (r < tree.terminal_mark) }
-    ensures node_read { (result ≡ walk.wrong → ⊥) → walk.NodeRead wanted.old wanted.new words.now t.now n result }
-    ensures unread { result ≡ walk.wrong → walk.Unread wanted.old words.now t.now n }
+    ensures { MatchResult result (λ x. walk.NodeRead wanted.old wanted.new table.now.words.now t.now n x)
+        (λ _. walk.Unread wanted.old table.now.words.now t.now n) }
 {
-    if r < access::rules(words) {
-        return rule_symbol(wanted, words, t, n, access::rule_at(offsets, r));
+    if r >= access::rules(table.words) {
+        return Err(Unsure);
     }
-    WRONG
+    rule_symbol(wanted, table, t, n, table.rule_at(r))
 }
 
-// The symbol of node n, with those of its children written down; WRONG where 13 or 14 refuses it, or where it names a node that was named before.
-fn node_symbol(wanted: &mut [u8], words: &[u16], offsets: &Offsets, t: &[u16], n: usize) -> usize
-    requires ready { walk.Ready words.now offsets.now }
-    requires on_node { walk.OnNode wanted.old t.now n }
-    ensures node_read { (result ≡ walk.wrong → ⊥) → walk.NodeRead wanted.old wanted.new words.now t.now n result }
-    ensures unread { result ≡ walk.wrong → walk.Unread wanted.old words.now t.now n }
+// The symbol of node n, with those of its children written down. Fails where 13 or 14 refuses it, or where it names a node that was named before.
+fn node_symbol(wanted: &mut [u8], table: &Table<'_>, t: &[u16], n: usize) -> Result<usize, Unsure>
+    requires { walk.OnNode wanted.old t.now n }
+    ensures { MatchResult result (λ x. walk.NodeRead wanted.old wanted.new table.now.words.now t.now n x)
+        (λ _. walk.Unread wanted.old table.now.words.now t.now n) }
 {
     let r = known(t, 8 * n);
     if r < TERMINAL_MARK {
-        return applied_symbol(wanted, words, offsets, t, n, r);
+        return applied_symbol(wanted, table, t, n, r);
     }
-    terminal_symbol(words, t, n, r - TERMINAL_MARK)
-}
-
-// The first node without a parent, with node n of this symbol, where the walk found `orphan` before it and this symbol is written down for it.
-fn orphan_after(orphan: usize, nodes: usize, n: usize, symbol: usize, written: usize) -> usize
-    ensures { result ≡ walk.orphan_after orphan nodes n symbol written }
-{
-    if written == symbol {
-        return orphan;
-    }
-    if symbol == WRONG {
-        return UNSURE;
-    }
-    if written != NO_SYMBOL {
-        return UNSURE;
-    }
-    if orphan < nodes {
-        return orphan;
-    }
-    n
-}
-
-// A symbol that is written down, as an index.
-fn wide(x: u8) -> usize
-    ensures value { result ≡ x }
-    ensures upper_bound { result < 256 }
-{
-    x as usize
+    terminal_symbol(table, t, n, r - TERMINAL_MARK)
 }
 
 // Goes past node n, where `orphan` is the first node before it without a parent.
 fn past_node(
     wanted: &mut [u8],
-    words: &[u16],
-    offsets: &Offsets,
+    table: &Table<'_>,
     t: &[u16],
     nodes: usize,
     n: usize,
-    orphan: usize,
-) -> usize
-    requires ready { walk.Ready words.now offsets.now }
-    requires walked { walk.Walked words.now t.now wanted.old n orphan nodes }
+    orphan: Option<usize>,
+) -> Result<Option<usize>, Unsure>
+    requires walked { walk.Walked table.now.words.now t.now wanted.old n orphan nodes }
     requires n_lt_nodes { n < nodes }
-    ensures walked_2 { result ≤ nodes → walk.Walked words.now t.now wanted.new (n + 1) result nodes }
-    ensures fact { nodes < result → walk.Apart words.now t.now → ⊥ }
+    ensures { MatchResult result (λ o. walk.Walked table.now.words.now t.now wanted.new (n + 1) o nodes)
+        (λ _. walk.Apart table.now.words.now t.now → ⊥) }
 {
-    let symbol = node_symbol(wanted, words, offsets, t, n);
-    orphan_after(orphan, nodes, n, symbol, wide(wanted[n]))
+    let symbol = node_symbol(wanted, table, t, n)?;
+    let written = wanted[n];
+    if written as usize == symbol {
+        return Ok(orphan);
+    }
+    if written != NO_SYMBOL {
+        return Err(Unsure);
+    }
+    Ok(orphan.or(Some(n)))
 }
 
-// The first node without a parent, or the number of nodes where each has one; UNSURE of a tree with another fault in 13 to 17.
-pub fn first_orphan(words: &[u16], offsets: &Offsets, t: &[u16], nodes: usize) -> usize
-    requires ready { walk.Ready words.now offsets.now }
-    requires nodes_value { (nodes ≡ tree.nodes t.now) × ((1 ≤ nodes) × (nodes ≤ tree.most_nodes)) }
-    ensures one_walk { result ≤ nodes → walk.OneWalk words.now t.now result }
-    ensures fact { nodes < result → walk.Apart words.now t.now → ⊥ }
+// The first node without a parent, if there is one.
+pub fn first_orphan(table: &Table<'_>, t: &[u16], nodes: usize) -> Result<Option<usize>, Unsure>
+    requires { (nodes ≡ tree.nodes t.now) × ((1 ≤ nodes) × (nodes ≤ tree.most_nodes)) }
+    ensures { MatchResult result (λ o. walk.OneWalk table.now.words.now t.now o) (λ _. walk.Apart table.now.words.now t.now → ⊥) }
 {
-    let mut wanted = [255u8; MOST_NODES];
-    wanted[0] = narrow(access::start(words));
-    let mut orphan = nodes;
+    let mut wanted = [NO_SYMBOL; MOST_NODES];
+    wanted[0] = access::start(table.words) as u8;
+    let mut orphan = None;
     for n in 0..nodes {
-        orphan = past_node(&mut wanted, words, offsets, t, nodes, n, orphan);
-        if orphan > nodes {
-            return UNSURE;
-        }
+        orphan = past_node(&mut wanted, table, t, nodes, n, orphan)?;
     }
-    orphan
+    Ok(orphan)
 }

@@ -5,9 +5,8 @@ use mathlib.Core.Logic.{◌⊎◌, inl, inr, ⊎_elim}
 use mathlib.Core.Bool.{cond, not}
 use mathlib.Core.List.{List}
 use lib.Dec.{T, eqb, eqb→eq, T_not, not_T}
-use Rattle.bits.specs.Bit.{hasb, insert, remove, union, common, lowest, First}
+use Rattle.bits.specs.Bit.{hasb, insert, remove, union, common, First}
 use Rattle.bits.proofs.BitLaws.{bit_has}
-use Rattle.bits.proofs.RestLaws.{rest_of}
 use Rattle.bits.proofs.MemberLaws.{
   union_cases,
   union_left,
@@ -34,42 +33,40 @@ pub record Seeing (rows : List ℕ) (base among starts ends left : ℕ) : Type 0
   pub ends_there : (o x : ℕ) → ArcOf rows base among o x → T (not (hasb o left)) → T (hasb x ends)
 
 module _ (rows : List ℕ) (base among : ℕ) where
-  pub seeing_start : Seeing rows base among 0 0 among
-  seeing_start =
-      record {
+  pub seeing_start : (left : ℕ) → left ≡ among → Seeing rows base among 0 0 left
+  seeing_start left e =
+      subst⁻¹ (λ (y : ℕ). Seeing rows base among 0 0 y) e
+      (record {
         within = λ o t. t;
         begun = λ o t. absurd (T_not (hasb o 0) (none_left o) t);
         ended = λ x t. absurd (T_not (hasb x 0) (none_left x) t);
         begins = λ o x a n. absurd (T_not (hasb o among) n a.0);
         ends_there = λ o x a n. absurd (T_not (hasb o among) n a.0);
-      }
+      })
 
   pub seeing_turn : (starts ends left o next more further : ℕ) → Seeing rows base among starts ends left → First left o
-      → next ≡ remove (lowest 64 left) left → more ≡ cond (not (eqb (word rows (base + o)) 0)) (insert o starts) starts
+      → next ≡ remove o left → more ≡ cond (not (eqb (word rows (base + o)) 0)) (insert o starts) starts
       → further ≡ union ends (word rows (base + o)) → Seeing rows base among more further next
   unfolding leads
   seeing_turn starts ends left o next more further w f e p q =
       record {
-        within = λ i t. w.within i (still o left i (subst (λ (y : ℕ). T (hasb i y)) taken t));
+        within = λ i t. w.within i (still o left i (subst (λ (y : ℕ). T (hasb i y)) e t));
         begun = λ i t. begun_now i (tested (not (eqb row 0))) (subst (λ (y : ℕ). T (hasb i y)) p t);
         ended = λ x t.
             ⊎_elim (λ l. w.ended x l) (λ l. (o, (member, l)))
             (union_cases x ends row (subst (λ (y : ℕ). T (hasb x y)) q t));
         begins = λ i x a n.
             subst⁻¹ (λ (y : ℕ). T (hasb i y)) p
-            (begins_now i x a (tested (not (eqb row 0))) (gone o left i (subst (λ (y : ℕ). T (not (hasb i y))) taken n)));
+            (begins_now i x a (tested (not (eqb row 0))) (gone o left i (subst (λ (y : ℕ). T (not (hasb i y))) e n)));
         ends_there = λ i x a n.
             subst⁻¹ (λ (y : ℕ). T (hasb x y)) q
             (⊎_elim
             (λ s. union_right x ends row (subst (λ (y : ℕ). T (hasb x (word rows (base + y)))) s a.1))
-            (λ s. union_left x ends row (w.ends_there i x a s)) (gone o left i (subst (λ (y : ℕ). T (not (hasb i y))) taken n)));
+            (λ s. union_left x ends row (w.ends_there i x a s)) (gone o left i (subst (λ (y : ℕ). T (not (hasb i y))) e n)));
       }
     where
       row : ℕ
       row = word rows (base + o)
-
-      taken : next ≡ remove o left
-      taken = rest_of left o next f e
 
       member : T (hasb o among)
       member = w.within o (true_T _ (bit_has o left f.member))

@@ -8,9 +8,8 @@ use native.Mathlib.Omega.{arith}
 use lib.Dec.{T, T_not}
 use lib.ListN.{length, set, length-set}
 use lib.Seq.{get_or-set_same, get_or-set_other}
-use Rattle.bits.specs.Bit.{hasb, remove, union, lowest, First}
+use Rattle.bits.specs.Bit.{hasb, remove, union, First}
 use Rattle.bits.proofs.BitLaws.{bit_has}
-use Rattle.bits.proofs.RestLaws.{rest_of}
 use Rattle.bits.proofs.MemberLaws.{union_cases, union_left, union_right, none_left}
 use Rattle.basics.specs.Lists.{word}
 use Rattle.basics.proofs.TestLaws.{true_T}
@@ -25,30 +24,28 @@ pub record Reaching (rows : List ℕ) (base set reached left : ℕ) : Type 0 whe
   pub sound : (x : ℕ) → T (hasb x reached) → T (hasb x set) ⊎ ((b : ℕ) × T (hasb b set) × T (leads rows base b x))
 
 module _ (rows : List ℕ) (base set : ℕ) where
-  pub reaching_start : Reaching rows base set set set
-  reaching_start =
-      record { within = λ b t. t; own = λ b t. t; has = λ b x t n l. absurd (T_not (hasb b set) n t); sound = λ x t. inl t }
+  pub reaching_start : (left : ℕ) → left ≡ set → Reaching rows base set set left
+  reaching_start left e =
+      subst⁻¹ (λ (y : ℕ). Reaching rows base set set y) e
+      (record { within = λ b t. t; own = λ b t. t; has = λ b x t n l. absurd (T_not (hasb b set) n t); sound = λ x t. inl t })
 
   pub reaching_turn : (reached left b next more : ℕ) → Reaching rows base set reached left → First left b
-      → next ≡ remove (lowest 64 left) left → more ≡ union reached (word rows (base + b)) → Reaching rows base set more next
+      → next ≡ remove b left → more ≡ union reached (word rows (base + b)) → Reaching rows base set more next
   unfolding leads
   reaching_turn reached left b next more w f e h =
       record {
-        within = λ c t. w.within c (still b left c (subst (λ (y : ℕ). T (hasb c y)) taken t));
+        within = λ c t. w.within c (still b left c (subst (λ (y : ℕ). T (hasb c y)) e t));
         own = λ c t. grown c (union_left c reached (word rows (base + b)) (w.own c t));
         has = λ c x t n l.
             grown x
             (⊎_elim (λ q. union_right x reached (word rows (base + b)) (subst (λ (y : ℕ). T (hasb x (word rows (base + y)))) q l))
             (λ q. union_left x reached (word rows (base + b)) (w.has c x t q l))
-            (gone b left c (subst (λ (y : ℕ). T (not (hasb c y))) taken n)));
+            (gone b left c (subst (λ (y : ℕ). T (not (hasb c y))) e n)));
         sound = λ x t.
             ⊎_elim (λ l. w.sound x l) (λ l. inr (b, w.within b (true_T _ (bit_has b left f.member)), l))
             (union_cases x reached (word rows (base + b)) (subst (λ (y : ℕ). T (hasb x y)) h t));
       }
     where
-      taken : next ≡ remove b left
-      taken = rest_of left b next f e
-
       grown : (x : ℕ) → T (hasb x (union reached (word rows (base + b)))) → T (hasb x more)
       grown x t = subst⁻¹ (λ (y : ℕ). T (hasb x y)) h t
 

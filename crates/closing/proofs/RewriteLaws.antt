@@ -9,10 +9,8 @@ use native.Mathlib.Omega.{arith}
 use lib.Dec.{T, ltb, leb, leb→le, lt→ltb, le→leb, T_not, not_T}
 use lib.ListN.{length, set, length-set}
 use lib.Seq.{get_or-set_same, get_or-set_other, ext_get_or}
-use Rattle.bits.specs.Bit.{hasb, remove, lowest, First}
+use Rattle.bits.specs.Bit.{hasb, remove, First}
 use Rattle.bits.proofs.BitLaws.{bit_has}
-use Rattle.bits.proofs.SetLaws.{remove_less}
-use Rattle.bits.proofs.RestLaws.{rest_of}
 use Rattle.bits.proofs.MemberLaws.{has_not, has_other, none_left}
 use Rattle.basics.specs.Tests.{◌and◌}
 use Rattle.basics.specs.Lists.{word}
@@ -115,12 +113,6 @@ module _ (entry : List ℕ) (base among : ℕ) (f : ℕ → ℕ) where
           (λ t. and_intro _ _ t (none_left (j - base)))
 
 -- The same as a loop meets them: o is the first that is left, and what is left after it is in a local.
-pub taken_less : (left o next : ℕ) → First left o → next ≡ remove o left → next < left
-taken_less left o next f e = subst⁻¹ (λ (x : ℕ). x < left) e (remove_less o left f.member)
-
-pub rest_less : (left o next : ℕ) → First left o → next ≡ remove (lowest 64 left) left → next < left
-rest_less left o next f e = taken_less left o next f (rest_of left o next f e)
-
 pub turn : (entry : List ℕ) (base among : ℕ) (f : ℕ → ℕ) (rows : List ℕ) (left o next v : ℕ) → Rewriting entry base among f rows left
     → First left o → next ≡ remove o left → v ≡ f o → Rewriting entry base among f (set rows (base + o) v) next
 turn entry base among f rows left o next v w h e q =

@@ -16,10 +16,7 @@ fn reached_from(rows: &[u64], base: usize, set: u64) -> u64
     ensures { spec.Reached rows.now base set result }
 {
     let mut reached = set;
-    let mut left = set;
-    while left != 0 {
-        let b = bits::first(left);
-        left = bits::rest(left);
+    for b in bits::members(set) {
         reached = bits::union(reached, rows[base + b]);
     }
     reached
@@ -64,10 +61,7 @@ pub fn inner(rows: &[u64], base: usize, among: u64) -> u64
 {
     let mut starts = 0;
     let mut ends = 0;
-    let mut left = among;
-    while left != 0 {
-        let o = bits::first(left);
-        left = bits::rest(left);
+    for o in bits::members(among) {
         let row = rows[base + o];
         starts = bits::put(starts, o, row != 0);
         ends = bits::union(ends, row);

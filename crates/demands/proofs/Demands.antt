@@ -7,10 +7,10 @@ use native.Mathlib.Omega.{arith}
 use lib.Dec.{T}
 use lib.IntN.{ℤ}
 use lib.ListN.{length}
+use Rattle.std.specs.Prelude.{Result}
 use Rattle.refusals.specs.declared.Refusal.{Refusal}
 use Rattle.grammar.specs.Limits.{plan_words}
-use Rattle.grammar.specs.declared.Verdict.{Verdict}
-use Rattle.grammar.specs.declared.Verdict.TheVariants.{Good}
+use Rattle.grammar.specs.Verdicts.{Verdict, Good}
 use Rattle.grammar.specs.Table.{rules, rule_counts}
 use Rattle.grammar.specs.Reading.{read_table}
 use Rattle.grammar.specs.WellFormed.{WellFormed}
@@ -19,7 +19,6 @@ use Rattle.order.specs.Paper.{IsOrdered}
 use Rattle.order.proofs.WholeGrammar.{computed_sets, one_numbering_law, ordered_idp, sets_exist_law, neighbouring_same}
 use Rattle.sequences.specs.Paper.{Sequence}
 use Rattle.sequences.proofs.PaperSequence.{sequence_obeys, sequence_only, paper_ready, all_actions_law}
-use Rattle.plans.specs.declared.Planned as P
 use Rattle.plans.specs.Answer.{Outcome, accepted, outcome, room, answer_of, rows_after, plan_after}
 use Rattle.plans.proofs.Ordered.{accepted_exactly_law, ordered_free}
 use Rattle.plans.proofs.Left.{accepted_written}
@@ -28,12 +27,11 @@ use Rattle.planner.specs.Answered.{Answered}
 use Rattle.planner.proofs.RoomLaws.{both_long}
 use Rattle.trees.specs.Checking.{check_tree}
 use Rattle.trees.proofs.AcceptedTree.{accepted_tree}
-use Rattle.runs.specs.declared.Ran as R
 use Rattle.runs.specs.declared.Report.{Report}
 use Rattle.runs.specs.Sound.{Sound}
 use Rattle.runs.specs.Automaton.{Machine}
 use Rattle.runs.specs.Totals.{total_of, total}
-use Rattle.runs.specs.Run.{ran, run_answer, values_after}
+use Rattle.runs.specs.Run.{reported, ran, run_answer, values_after}
 use Rattle.runs.proofs.PlannedSound.{planned_sound}
 use Rattle.runs.proofs.Totals.{total_stands}
 use Rattle.runs.proofs.EverySoundPlan as run
@@ -67,13 +65,13 @@ module _ (g rows plan : List ℕ) where
       }
 
   -- "Every table, tree and buffer size gets an answer."
-  pub every_plan : (answer : P.Planned) × (rows' : List ℕ) × (plan' : List ℕ) × Demand1 g rows plan answer rows' plan'
+  pub every_plan : (answer : Result ℕ Refusal) × (rows' : List ℕ) × (plan' : List ℕ) × Demand1 g rows plan answer rows' plan'
   every_plan = (answer_of g came, rows_after g came rows, plan_after g came plan, computed_1)
 
   -- Demand 1, of `plan`.
-  pub demand_1 : (answer : P.Planned) (rows' plan' : List ℕ) → Answered g rows plan answer rows' plan' → Demand1 g rows plan answer rows' plan'
+  pub demand_1 : (answer : Result ℕ Refusal) (rows' plan' : List ℕ) → Answered g rows plan answer rows' plan' → Demand1 g rows plan answer rows' plan'
   demand_1 answer rows' plan' w =
-      subst⁻¹ (λ (a : P.Planned). Demand1 g rows plan a rows' plan') w.answers
+      subst⁻¹ (λ (a : Result ℕ Refusal). Demand1 g rows plan a rows' plan') w.answers
       (subst⁻¹ (λ (x : List ℕ). Demand1 g rows plan (answer_of g came) x plan') w.rows_are
       (subst⁻¹ (λ (x : List ℕ). Demand1 g rows plan (answer_of g came) (rows_after g came rows) x) w.plan_is computed_1))
 
@@ -114,21 +112,21 @@ module _ (g rows plan : List ℕ) where
               subst⁻¹ (λ (x : Outcome). Sound g (plan_after g x plan)) (ordered_came o) (planned_sound g good plan f.no_idp_cycle f.no_edp_cycle);
         }
 
-    pub demand_2 : (answer : P.Planned) (rows' plan' : List ℕ) → Answered g rows plan answer rows' plan' → Demand2 g answer rows' plan'
+    pub demand_2 : (answer : Result ℕ Refusal) (rows' plan' : List ℕ) → Answered g rows plan answer rows' plan' → Demand2 g answer rows' plan'
     demand_2 answer rows' plan' w =
-        subst⁻¹ (λ (a : P.Planned). Demand2 g a rows' plan') w.answers
+        subst⁻¹ (λ (a : Result ℕ Refusal). Demand2 g a rows' plan') w.answers
         (subst⁻¹ (λ (x : List ℕ). Demand2 g (answer_of g came) x plan') w.rows_are
         (subst⁻¹ (λ (x : List ℕ). Demand2 g (answer_of g came) (rows_after g came rows) x) w.plan_is computed_2))
 
 -- Demand 3 for every sound plan, whoever drew it up, and every tree to which no case of 12 to 18 applies.
 pub demand_3_sound : (g p t : List ℕ) (v : List ℤ) (budget : ℕ) → WellFormed g → Sound g p → ((n : Refusal) → ¬ TreeCase g t (length v) n)
-    → Demand3 g p t v budget (total p t) (ran g p t v budget).answer (ran g p t v budget).machine.values
+    → Demand3 g p t v budget (total p t) (reported (ran g p t v budget).answer) (ran g p t v budget).machine.values
 demand_3_sound g p t v budget formed sound none =
     let good : read_table g ≡ Good = (read_exactly g).1 formed in
     let tree : check_tree g t (length v) ≡ Good = (tree_good g t (length v) good).1 none in
     record {
-      done = run.run_done g p t v good sound tree budget;
-      stopped = run.run_stopped g p t v good sound tree budget;
+      done = λ h. ap reported (run.run_done g p t v good sound tree budget h);
+      stopped = λ h. ap reported (run.run_stopped g p t v good sound tree budget h);
       same_run = ap (λ (m : Machine). m.values) (run.run_machine g p t v good sound tree budget);
       once = run.attribute_once g p t v good sound tree;
       after_arguments = run.arguments_before g p t v good sound tree;
@@ -151,7 +149,7 @@ module _ (g rows plan t : List ℕ) (v : List ℤ) (budget : ℕ) where
       of_plan (in_plan c) = c
       of_plan (in_tree c) = absurd (omega (arith, (tree_place g t (length v) n c).late))
 
-  pub computed_1_run : Demand1Run g rows plan t v (record { ran = whole.answer g rows plan t v budget }) (whole.values g rows plan t v budget)
+  pub computed_1_run : Demand1Run g rows plan t v (whole.answer g rows plan t v budget) (whole.values g rows plan t v budget)
       (rows_after g reached rows) (plan_after g reached plan)
   computed_1_run =
       record {
@@ -164,9 +162,9 @@ module _ (g rows plan t : List ℕ) (v : List ℤ) (budget : ℕ) where
         stays = record { rows_beyond = rows_stay g rows plan; plan_beyond = plan_stay g rows plan };
       }
 
-  pub every_run : (report : Report) × (v' : List ℤ) × (rows' : List ℕ) × (plan' : List ℕ) × Demand1Run g rows plan t v report v' rows' plan'
+  pub every_run : (answer : Result Report Refusal) × (v' : List ℤ) × (rows' : List ℕ) × (plan' : List ℕ) × Demand1Run g rows plan t v answer v' rows' plan'
   every_run = (
-    record { ran = whole.answer g rows plan t v budget },
+    whole.answer g rows plan t v budget,
     whole.values g rows plan t v budget,
     rows_after g reached rows,
     plan_after g reached plan,
@@ -174,12 +172,12 @@ module _ (g rows plan t : List ℕ) (v : List ℤ) (budget : ℕ) where
   )
 
   -- Demand 1, of `run`.
-  pub demand_1_run : (report : Report) (v' : List ℤ) (rows' plan' : List ℕ) → runner.Answered g rows plan t v budget report v' rows' plan'
-      → Demand1Run g rows plan t v report v' rows' plan'
+  pub demand_1_run : (answer : Result Report Refusal) (v' : List ℤ) (rows' plan' : List ℕ) → runner.Answered g rows plan t v budget answer v' rows' plan'
+      → Demand1Run g rows plan t v answer v' rows' plan'
   unfolding whole.came
-  demand_1_run report v' rows' plan' w =
-      let told : Report = record { ran = whole.answer g rows plan t v budget } in
-      subst⁻¹ (λ (a : R.Ran). Demand1Run g rows plan t v (record { ran = a }) v' rows' plan') w.answers
+  demand_1_run answer v' rows' plan' w =
+      let told : Result Report Refusal = whole.answer g rows plan t v budget in
+      subst⁻¹ (λ (a : Result Report Refusal). Demand1Run g rows plan t v a v' rows' plan') w.answers
       (subst⁻¹ (λ (x : List ℤ). Demand1Run g rows plan t v told x rows' plan') w.values_are
       (subst⁻¹ (λ (x : List ℕ). Demand1Run g rows plan t v told (whole.values g rows plan t v budget) x plan') w.rows_are
       (subst⁻¹ (λ (x : List ℕ). Demand1Run g rows plan t v told (whole.values g rows plan t v budget) (rows_after g reached rows) x)
@@ -211,10 +209,10 @@ module _ (g rows plan t : List ℕ) (v : List ℤ) (budget : ℕ) where
     planned = let f = ordered_free g is_read run_ordered in planned_sound g is_read plan f.no_idp_cycle f.no_edp_cycle
 
     -- what is answered and left is what a run of that plan answers and leaves
-    is_run : (report : Report) (v' : List ℤ) (rows' plan' : List ℕ) → runner.Answered g rows plan t v budget report v' rows' plan'
-        → (plan' ≡ p) × (report.ran ≡ (ran g p t v budget).answer) × (v' ≡ (ran g p t v budget).machine.values)
+    is_run : (answer : Result Report Refusal) (v' : List ℤ) (rows' plan' : List ℕ) → runner.Answered g rows plan t v budget answer v' rows' plan'
+        → (plan' ≡ p) × (answer ≡ reported (ran g p t v budget).answer) × (v' ≡ (ran g p t v budget).machine.values)
     unfolding whole.came whole.answer whole.values run_answer values_after
-    is_run report v' rows' plan' w =
+    is_run answer v' rows' plan' w =
         let left : plan_after g reached plan ≡ p = ap (λ (o : Outcome). plan_after g o plan) is_accepted in (
           w.plan_is ∙ left,
           w.answers
@@ -227,22 +225,22 @@ module _ (g rows plan t : List ℕ) (v : List ℤ) (budget : ℕ) where
               ∙ ap (λ (c : Verdict). values_after g p t accepted c v budget) is_tree)),
         )
 
-    runs : (report : Report) (v' : List ℤ) (rows' plan' : List ℕ) → runner.Answered g rows plan t v budget report v' rows' plan'
+    runs : (answer : Result Report Refusal) (v' : List ℤ) (rows' plan' : List ℕ) → runner.Answered g rows plan t v budget answer v' rows' plan'
         → (o : IsOrdered g) (sequence : ℕ → List ℕ) → ((r : ℕ) → T (rule_counts g r) → Sequence g o.set r (sequence r))
-        → Demand3 g plan' t v budget (total_of sequence t) report.ran v'
-    runs report v' rows' plan' w o sequence are =
-        let e = is_run report v' rows' plan' w in
+        → Demand3 g plan' t v budget (total_of sequence t) answer v'
+    runs answer v' rows' plan' w o sequence are =
+        let e = is_run answer v' rows' plan' w in
         let formed : WellFormed g = (read_exactly g).0 is_read in
         let added : total p t ≡ total_of sequence t =
         total_stands g p t (length v) (accepted_tree g t (length v) formed is_tree) sequence
         (λ r c.
         (accepted_written g is_read (ordered_idp g formed o) o.set o.are_sets rows plan).sequence r c (sequence r) (are r c)) in
-        subst⁻¹ (λ (x : List ℕ). Demand3 g x t v budget (total_of sequence t) report.ran v') e.0
-        (subst⁻¹ (λ (a : R.Ran). Demand3 g p t v budget (total_of sequence t) a v') e.1
-        (subst⁻¹ (λ (x : List ℤ). Demand3 g p t v budget (total_of sequence t) (ran g p t v budget).answer x) e.2
-        (subst (λ (n : ℕ). Demand3 g p t v budget n (ran g p t v budget).answer (ran g p t v budget).machine.values) added
+        subst⁻¹ (λ (x : List ℕ). Demand3 g x t v budget (total_of sequence t) answer v') e.0
+        (subst⁻¹ (λ (a : Result Report Refusal). Demand3 g p t v budget (total_of sequence t) a v') e.1
+        (subst⁻¹ (λ (x : List ℤ). Demand3 g p t v budget (total_of sequence t) (reported (ran g p t v budget).answer) x) e.2
+        (subst (λ (n : ℕ). Demand3 g p t v budget n (reported (ran g p t v budget).answer) (ran g p t v budget).machine.values) added
         (demand_3_sound g p t v budget formed planned (λ n c. none n (in_tree c))))))
 
-    pub demand_3 : (report : Report) (v' : List ℤ) (rows' plan' : List ℕ) → runner.Answered g rows plan t v budget report v' rows' plan'
-        → Demand3Run g t v budget report v' plan'
-    demand_3 report v' rows' plan' w = record { ordered = run_ordered; runs = runs report v' rows' plan' w }
+    pub demand_3 : (answer : Result Report Refusal) (v' : List ℤ) (rows' plan' : List ℕ) → runner.Answered g rows plan t v budget answer v' rows' plan'
+        → Demand3Run g t v budget answer v' plan'
+    demand_3 answer v' rows' plan' w = record { ordered = run_ordered; runs = runs answer v' rows' plan' w }

@@ -9,13 +9,14 @@ use lib.Dec.{T, lt→ltb}
 use lib.IntN.{ℤ}
 use lib.ListN.{length}
 use lib.Seq.{ext_get_or}
+use Rattle.std.specs.Prelude.{Result, Ok, Err}
 use Rattle.basics.specs.Lists.{word}
 use Rattle.basics.proofs.TestLaws.{below_or_not}
 use Rattle.bits.specs.Bit.{bit}
 use Rattle.bits.proofs.BitLaws.{bit_le, bits_ext}
 use Rattle.refusals.specs.declared.Refusal.{Refusal}
 use Rattle.grammar.specs.Limits.{most_occurrences, set_words, rule_words, row_words, plan_words}
-use Rattle.grammar.specs.declared.Verdict.TheVariants.{Good}
+use Rattle.grammar.specs.Verdicts.{Good}
 use Rattle.grammar.specs.Table.{rules, rule_counts}
 use Rattle.grammar.specs.Reading.{read_table}
 use Rattle.grammar.specs.WellFormed.{WellFormed}
@@ -28,13 +29,11 @@ use Rattle.order.proofs.WholeGrammar.{computed_sets, ordered_idp, sets_exist_law
 use Rattle.sequences.specs.Order.{sequence_of}
 use Rattle.sequences.specs.Paper.{Sequence}
 use Rattle.sequences.proofs.PaperSequence.{sequence_obeys}
-use Rattle.plans.specs.declared.Planned as P
 use Rattle.plans.specs.Sequences.{sequence_at, sequence_length, action_at}
 use Rattle.plans.specs.Answer.{Outcome, accepted, outcome, answer_of, rows_after, plan_after}
 use Rattle.plans.specs.Left.{RowsHold, EDP⁺, SequenceStands, Written, Beyond}
 use Rattle.plans.proofs.Stays.{past_room, rows_stay, plan_stay}
 use Rattle.planner.specs.Answered.{Answered}
-use Rattle.runs.specs.declared.Ran as R
 use Rattle.runs.specs.declared.Report.{Report}
 use Rattle.runs.specs.Computing.{machine_at}
 use Rattle.runs.specs.Totals.{total_of}
@@ -161,20 +160,20 @@ module _ (g rows plan : List ℕ) where
         )
 
 -- What meets demands 1 and 2 meets the contract of `plan`.
-pub plan_determined : (g rows plan : List ℕ) (answer : P.Planned) (s p : List ℕ) → Demand1 g rows plan answer s p
+pub plan_determined : (g rows plan : List ℕ) (answer : Result ℕ Refusal) (s p : List ℕ) → Demand1 g rows plan answer s p
     → (Given g rows plan → Demand2 g answer s p) → Answered g rows plan answer s p
 plan_determined g rows plan answer s p one two = go (outcome g (length rows) (length plan)) refl (refused_or_not (answer_of g (came g rows plan)))
   where
-    refused_or_not : (a : P.Planned) → ((n : Refusal) × (a ≡ P.TheVariants.Refused n)) ⊎ ((k : ℕ) × (a ≡ P.TheVariants.Accepted k))
-    refused_or_not (P.TheVariants.Refused n) = inl (n, refl)
-    refused_or_not (P.TheVariants.Accepted k) = inr (k, refl)
+    refused_or_not : (a : Result ℕ Refusal) → ((n : Refusal) × (a ≡ Err n)) ⊎ ((k : ℕ) × (a ≡ Ok k))
+    refused_or_not (Err n) = inl (n, refl)
+    refused_or_not (Ok k) = inr (k, refl)
 
     go : (o : Outcome) → came g rows plan ≡ o
-        → ((n : Refusal) × (answer_of g (came g rows plan) ≡ P.TheVariants.Refused n)) ⊎ ((k : ℕ) × (answer_of g (came g rows plan) ≡ P.TheVariants.Accepted k))
+        → ((n : Refusal) × (answer_of g (came g rows plan) ≡ Err n)) ⊎ ((k : ℕ) × (answer_of g (came g rows plan) ≡ Ok k))
         → Answered g rows plan answer s p
     go o e (inl r) =
         let first : PlanRefuses g (length rows) (length plan) r.0 = (planning_refused g (length rows) (length plan) r.0).0 r.1 in
-        let is : answer ≡ P.TheVariants.Refused r.0 = (one.refuses r.0).1 first in
+        let is : answer ≡ Err r.0 = (one.refuses r.0).1 first in
         let v = one.leaves r.0 is in
         let w = (computed_1 g rows plan).leaves r.0 r.1 in
         record {
@@ -189,19 +188,19 @@ plan_determined g rows plan answer s p one two = go (outcome g (length rows) (le
         let room = past_room g rows plan accepted done (λ m q. let z : ◌≡◌ {A = ℕ} 0 1 = cc in omega arith) in
         let given : Given g rows plan = record { formed = wf; rows_room = room.0; plan_room = room.1 } in
         let d = two given in
-        let ordered : IsOrdered g = (computed_2 g rows plan given).accepted_exactly.0 (r.1 ∙ ap P.TheVariants.Accepted a.0) in
+        let ordered : IsOrdered g = (computed_2 g rows plan given).accepted_exactly.0 (r.1 ∙ ap Ok a.0) in
         let w = same_written g rows plan done s p (d.written ordered) one.stays in
         record { answers = (one.accepts r.0).1 a ∙ sym r.1; rows_are = w.0; plan_is = w.1 }
 
 -- What meets demands 1 and 3 meets the contract of `run`.
 module _ (g rows plan t : List ℕ) (v : List ℤ) (budget : ℕ) where
   -- where some case answers
-  refused_run : (n : Refusal) → whole.answer g rows plan t v budget ≡ R.TheVariants.Refused n → (report : Report) (v' : List ℤ) (s p : List ℕ)
-      → Demand1Run g rows plan t v report v' s p → runner.Answered g rows plan t v budget report v' s p
+  refused_run : (n : Refusal) → whole.answer g rows plan t v budget ≡ Err n → (answer : Result Report Refusal) (v' : List ℤ) (s p : List ℕ)
+      → Demand1Run g rows plan t v answer v' s p → runner.Answered g rows plan t v budget answer v' s p
   unfolding whole.came
-  refused_run n e report v' s p one =
+  refused_run n e answer v' s p one =
       let first : Refuses g (length rows) (length plan) t (length v) n = (run_refused g rows plan t v budget n).0 e in
-      let is : report.ran ≡ R.TheVariants.Refused n = (one.refuses n).1 first in
+      let is : answer ≡ Err n = (one.refuses n).1 first in
       let left = one.leaves n is in
       let w = (computed_1_run g rows plan t v budget).leaves n e in
       let both : (s ≡ rows_after g (came g rows plan) rows) × (p ≡ plan_after g (came g rows plan) plan) =
@@ -228,15 +227,15 @@ module _ (g rows plan t : List ℕ) (v : List ℤ) (budget : ℕ) where
         sequence_obeys g good (ordered_idp g ((read_exactly g).0 good) o) o.set o.are_sets r c
 
     -- where none applies
-    carried_run : (report : Report) (v' : List ℤ) (s p : List ℕ) → Demand1Run g rows plan t v report v' s p
-        → Demand3Run g t v budget report v' p → runner.Answered g rows plan t v budget report v' s p
+    carried_run : (answer : Result Report Refusal) (v' : List ℤ) (s p : List ℕ) → Demand1Run g rows plan t v answer v' s p
+        → Demand3Run g t v budget answer v' p → runner.Answered g rows plan t v budget answer v' s p
     unfolding whole.came
-    carried_run report v' s p one three =
+    carried_run answer v' s p one three =
         let o : IsOrdered g = run_ordered g rows plan t v budget none in
-        let d : Demand3 g p t v budget (total_of sequence t) report.ran v' = three.runs o sequence (are o) in
+        let d : Demand3 g p t v budget (total_of sequence t) answer v' = three.runs o sequence (are o) in
         let c : Demand3 g (plan_after g (came g rows plan) plan) t v budget (total_of sequence t) (whole.answer g rows plan t v budget)
         (whole.values g rows plan t v budget) =
-        (demand_3 g rows plan t v budget none (record { ran = whole.answer g rows plan t v budget }) (whole.values g rows plan t v budget)
+        (demand_3 g rows plan t v budget none (whole.answer g rows plan t v budget) (whole.values g rows plan t v budget)
         (rows_after g (came g rows plan) rows) (plan_after g (came g rows plan) plan)
         (record { answers = refl; values_are = refl; rows_are = refl; plan_is = refl })).runs o sequence (are o) in
         let w = same_written g rows plan (is_accepted g rows plan t v budget none) s p (one.written none) one.stays in
@@ -250,17 +249,16 @@ module _ (g rows plan t : List ℕ) (v : List ℤ) (budget : ℕ) where
           plan_is = w.1;
         }
 
-  pub run_determined : (report : Report) (v' : List ℤ) (s p : List ℕ) → Demand1Run g rows plan t v report v' s p
-      → (((n : Refusal) → ¬ RunCase g (length rows) (length plan) t (length v) n) → Demand3Run g t v budget report v' p)
-      → runner.Answered g rows plan t v budget report v' s p
-  run_determined report v' s p one three = go (whole.answer g rows plan t v budget) refl
+  pub run_determined : (answer : Result Report Refusal) (v' : List ℤ) (s p : List ℕ) → Demand1Run g rows plan t v answer v' s p
+      → (((n : Refusal) → ¬ RunCase g (length rows) (length plan) t (length v) n) → Demand3Run g t v budget answer v' p)
+      → runner.Answered g rows plan t v budget answer v' s p
+  run_determined answer v' s p one three = go (whole.answer g rows plan t v budget) refl
     where
-      carried : (a : R.Ran) → whole.answer g rows plan t v budget ≡ a → ((n : Refusal) → ¬ (a ≡ R.TheVariants.Refused n))
-          → runner.Answered g rows plan t v budget report v' s p
+      carried : (a : Result Report Refusal) → whole.answer g rows plan t v budget ≡ a → ((n : Refusal) → ¬ (a ≡ Err n))
+          → runner.Answered g rows plan t v budget answer v' s p
       carried a e h =
-          let none = (run_carried_out g rows plan t v budget).0 (λ n q. h n (sym e ∙ q)) in carried_run none report v' s p one (three none)
+          let none = (run_carried_out g rows plan t v budget).0 (λ n q. h n (sym e ∙ q)) in carried_run none answer v' s p one (three none)
 
-      go : (a : R.Ran) → whole.answer g rows plan t v budget ≡ a → runner.Answered g rows plan t v budget report v' s p
-      go (R.TheVariants.Refused n) e = refused_run n e report v' s p one
-      go (R.TheVariants.Done k) e = carried (R.TheVariants.Done k) e (λ n q. let z : ◌≡◌ {A = ℕ} 0 1 = cc in omega arith)
-      go (R.TheVariants.Stopped k) e = carried (R.TheVariants.Stopped k) e (λ n q. let z : ◌≡◌ {A = ℕ} 0 1 = cc in omega arith)
+      go : (a : Result Report Refusal) → whole.answer g rows plan t v budget ≡ a → runner.Answered g rows plan t v budget answer v' s p
+      go (Err n) e = refused_run n e answer v' s p one
+      go (Ok k) e = carried (Ok k) e (λ n q. let z : ◌≡◌ {A = ℕ} 0 1 = cc in omega arith)

@@ -11,7 +11,7 @@ use lib.ListN.{length}
 use Rattle.basics.proofs.TestLaws.{below_or_not}
 use Rattle.refusals.specs.declared.Refusal.{Refusal}
 use Rattle.refusals.specs.declared.Refusal.TheVariants.{CircularIdp}
-use Rattle.grammar.specs.declared.Verdict.TheVariants.{Good}
+use Rattle.grammar.specs.Verdicts.{Good}
 use Rattle.grammar.specs.Reading.{read_table}
 use Rattle.relations.specs.Paper.{IDP⁺}
 use Rattle.order.specs.Paper.{PaperSets, CircularIDP}

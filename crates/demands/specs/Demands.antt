@@ -1,7 +1,7 @@
 -- The three demands on the build, as statements about what `plan` and `run` answer and leave. g is a table's words, rows and plan are the words
 -- that were lent and rows' and plan' those that are left, t a tree's words, v and v' the values before and after. That the code meets
 -- them, on every input, is proved in proofs/Demands. Assumes nothing.
-use Rattle.std.specs.Prelude.{ℕ, ◌+◌, ◌*◌, ◌≤◌, ◌<◌, min, ◌≡◌, ◌⊎◌, ◌↔◌, not, List, T, ℤ, length}
+use Rattle.std.specs.Prelude.{ℕ, ◌+◌, ◌*◌, ◌≤◌, ◌<◌, min, ◌≡◌, ◌⊎◌, ◌↔◌, not, List, T, ℤ, length, Result, Ok, Err}
 use Rattle.basics.specs.Lists.{member}
 use Rattle.refusals.specs.declared.Refusal.{Refusal}
 use Rattle.grammar.specs.Limits.{row_words, plan_words}
@@ -11,12 +11,11 @@ use Rattle.relations.specs.Paper.{IDP⁺, Path⁺}
 use Rattle.order.specs.Paper.{PaperSets, Neighbouring, CircularIDP, IsOrdered}
 use Rattle.sequences.specs.Actions.{decode}
 use Rattle.sequences.specs.Paper.{Belongs, DoneBefore, Sequence, ReadyAmong}
-use Rattle.plans.specs.declared.Planned as P
 use Rattle.plans.specs.Left.{RowsHold, EDP⁺, Written, Beyond}
 use Rattle.trees.specs.Tree.{rule_of, applies_rule, node_at, cell}
 use Rattle.trees.specs.Equations.{value_at, Solution, SameTerminals}
 use Rattle.trees.specs.Definers.{AttributeOf}
-use Rattle.runs.specs.declared.Ran as R
+use Rattle.runs.specs.declared.Ran.TheVariants.{Done, Stopped}
 use Rattle.runs.specs.declared.Report.{Report}
 use Rattle.runs.specs.Sound.{Sound}
 use Rattle.runs.specs.Depth.{longest_down}
@@ -46,18 +45,18 @@ pub record Stays (g rows plan rows' plan' : List ℕ) : Type 0 where
   pub plan_beyond : Beyond (plan_words (rules g)) plan plan'
 
 -- of `plan`: it refuses with the first of the cases 1 to 10 that applies (cases/specs), and "An accepted plan returns 256 + 112R."
-pub record Demand1 (g rows plan : List ℕ) (answer : P.Planned) (rows' plan' : List ℕ) : Type 1 where
-  pub refuses : (n : Refusal) → (answer ≡ P.TheVariants.Refused n) ↔ PlanRefuses g (length rows) (length plan) n
-  pub accepts : (k : ℕ) → (answer ≡ P.TheVariants.Accepted k)
+pub record Demand1 (g rows plan : List ℕ) (answer : Result ℕ Refusal) (rows' plan' : List ℕ) : Type 1 where
+  pub refuses : (n : Refusal) → (answer ≡ Err n) ↔ PlanRefuses g (length rows) (length plan) n
+  pub accepts : (k : ℕ) → (answer ≡ Ok k)
       ↔ ((k ≡ plan_words (rules g)) × ((n : Refusal) → ¬ PlanCase g (length rows) (length plan) n))
-  pub leaves : (n : Refusal) → answer ≡ P.TheVariants.Refused n → Leaves g rows plan n rows' plan'
+  pub leaves : (n : Refusal) → answer ≡ Err n → Leaves g rows plan n rows' plan'
   pub stays : Stays g rows plan rows' plan'
 
 -- of `run`: it refuses with the first of the cases 1 to 18 that applies, and leaves the values; where none applies, rows and plan are written
-pub record Demand1Run (g rows plan t : List ℕ) (v : List ℤ) (report : Report) (v' : List ℤ) (rows' plan' : List ℕ) : Type 1 where
-  pub refuses : (n : Refusal) → (report.ran ≡ R.TheVariants.Refused n) ↔ Refuses g (length rows) (length plan) t (length v) n
-  pub leaves : (n : Refusal) → report.ran ≡ R.TheVariants.Refused n → Leaves g rows plan n rows' plan'
-  pub values_stay : (n : Refusal) → report.ran ≡ R.TheVariants.Refused n → v' ≡ v
+pub record Demand1Run (g rows plan t : List ℕ) (v : List ℤ) (answer : Result Report Refusal) (v' : List ℤ) (rows' plan' : List ℕ) : Type 1 where
+  pub refuses : (n : Refusal) → (answer ≡ Err n) ↔ Refuses g (length rows) (length plan) t (length v) n
+  pub leaves : (n : Refusal) → answer ≡ Err n → Leaves g rows plan n rows' plan'
+  pub values_stay : (n : Refusal) → answer ≡ Err n → v' ≡ v
   pub written : ((n : Refusal) → ¬ RunCase g (length rows) (length plan) t (length v) n) → (set : ℕ → ℕ → ℕ) → PaperSets g set
       → Written g set rows' plan'
   pub stays : Stays g rows plan rows' plan'
@@ -72,8 +71,8 @@ pub record Given (g rows plan : List ℕ) : Type 0 where
   pub plan_room : plan_words (rules g) ≤ length plan
 
 -- what `plan` answers and leaves for it
-pub record Demand2 (g : List ℕ) (answer : P.Planned) (rows' plan' : List ℕ) : Type 1 where
-  pub accepted_exactly : (answer ≡ P.TheVariants.Accepted (plan_words (rules g))) ↔ IsOrdered g
+pub record Demand2 (g : List ℕ) (answer : Result ℕ Refusal) (rows' plan' : List ℕ) : Type 1 where
+  pub accepted_exactly : (answer ≡ Ok (plan_words (rules g))) ↔ IsOrdered g
   -- rows, sets and sequences of what is accepted
   pub written : IsOrdered g → (set : ℕ → ℕ → ℕ) → PaperSets g set → Written g set rows' plan'
   -- there are sets, one numbering and no other
@@ -98,9 +97,9 @@ pub record Demand2 (g : List ℕ) (answer : P.Planned) (rows' plan' : List ℕ) 
 -- A smaller budget stops after exactly that many actions of the same run."
 
 -- a run by the sequences in the words p, which takes so many actions in all
-pub record Demand3 (g p t : List ℕ) (v : List ℤ) (budget total : ℕ) (ran : R.Ran) (v' : List ℤ) : Type 0 where
-  pub done : total ≤ budget → ran ≡ R.TheVariants.Done total
-  pub stopped : budget < total → ran ≡ R.TheVariants.Stopped budget
+pub record Demand3 (g p t : List ℕ) (v : List ℤ) (budget total : ℕ) (answer : Result Report Refusal) (v' : List ℤ) : Type 0 where
+  pub done : total ≤ budget → answer ≡ Ok (record { ran = Done total })
+  pub stopped : budget < total → answer ≡ Ok (record { ran = Stopped budget })
   pub same_run : v' ≡ (machine_at g p t v (min budget total)).values
   pub once : (n a : ℕ) → T (applies_rule t n) → AttributeOf g t n a → ExactlyOnce g p t v total (8 * n + a)
   pub after_arguments : (k n o f j : ℕ) → Computing g p t v k n o → f < functions g (rule_of t n) → target g (rule_of t n) f ≡ o
@@ -116,7 +115,7 @@ pub record Demand3 (g p t : List ℕ) (v : List ℤ) (budget total : ℕ) (ran :
   pub stack_bound : (k : ℕ) → length (machine_at g p t v k).stack ≤ longest_down g t
 
 -- of `run`, where no case of 1 to 18 applies: the grammar is ordered, and the total is summed over the tie rule's sequences
-pub record Demand3Run (g t : List ℕ) (v : List ℤ) (budget : ℕ) (report : Report) (v' : List ℤ) (plan' : List ℕ) : Type 1 where
+pub record Demand3Run (g t : List ℕ) (v : List ℤ) (budget : ℕ) (answer : Result Report Refusal) (v' : List ℤ) (plan' : List ℕ) : Type 1 where
   pub ordered : IsOrdered g
   pub runs : (o : IsOrdered g) (sequence : ℕ → List ℕ) → ((r : ℕ) → T (rule_counts g r) → Sequence g o.set r (sequence r))
-      → Demand3 g plan' t v budget (total_of sequence t) report.ran v'
+      → Demand3 g plan' t v budget (total_of sequence t) answer v'

@@ -7,7 +7,7 @@ use Rattle.grammar.specs.Limits.{most_rules, row_words, plan_words}
 use Rattle.relations.specs.Computed.{ids_of}
 use Rattle.sets.specs.Computed.{sets_of}
 use Rattle.sets.specs.Visits.{visits}
-use Rattle.grammar.specs.declared.Verdict.TheVariants.{Good}
+use Rattle.grammar.specs.Verdicts.{Good}
 use Rattle.trees.specs.Checking.{check_tree}
 use Rattle.trees.specs.Equations.{value_at}
 use Rattle.plans.specs.Answer.{Outcome, untouched, circular_idp, unordered, outcome, accepted_plan}

@@ -9,7 +9,7 @@ use lib.Dec.{T}
 use lib.IntN.{ℤ}
 use lib.ListN.{length, take, set}
 use lib.Seq.{get_or-set_same, set-set, take-set-lt, get_or-take}
-use Rattle.grammar.specs.declared.Verdict.TheVariants.{Good}
+use Rattle.grammar.specs.Verdicts.{Good}
 use Rattle.grammar.specs.Reading.{read_table}
 use Rattle.executing.specs.Located.{Located}
 use Rattle.trees.specs.Checking.{check_tree}

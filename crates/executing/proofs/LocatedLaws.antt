@@ -10,7 +10,7 @@ use lib.ListN.{length, set, length-set}
 use lib.Seq.{get_or-set_same, get_or-set_other}
 use Rattle.basics.specs.Lists.{word}
 use Rattle.basics.proofs.TestLaws.{below_suc}
-use Rattle.grammar.specs.declared.Verdict.TheVariants.{Good}
+use Rattle.grammar.specs.Verdicts.{Good}
 use Rattle.grammar.specs.Limits.{most_rules, most_occurrences, longest_table}
 use Rattle.grammar.specs.Table.{rules, functions_at, function_at, rule_at, functions, function_of, target}
 use Rattle.grammar.specs.Reading.{read_table}
@@ -49,6 +49,13 @@ pub record Locating (g : List ℕ) (r : ℕ) (before starts : List ℕ) (f k n :
   pub count : k ≤ n
   pub here : (j : ℕ) → j < k → word starts (most_occurrences * r + target g r j) ≡ function_of g r j
   pub stays : (i : ℕ) → i < most_occurrences * r → word starts i ≡ word before i
+
+-- a rule of an accepted table is one of the most that there can be, and starts where the offsets say
+pub rule_few : (g : List ℕ) (r : ℕ) → read_table g ≡ Good → r < rules g → r < most_rules
+rule_few g r good h = omega (arith, (accepted g good).rules_fit)
+
+pub start_is : (g offsets : List ℕ) (r p : ℕ) → offsets ≡ offsets_for g Good → r < rules g → p ≡ word offsets r → p ≡ rule_at g r
+start_is g offsets r p placed h e = offset_is g offsets r p placed h e
 
 -- the rule starts within the table
 pub rule_starts : (g : List ℕ) (r p : ℕ) → read_table g ≡ Good → r < rules g → p ≡ rule_at g r → p < 65536
@@ -121,21 +128,18 @@ locating_finish w h = record { size = w.size; here = λ j l. w.here j (omega (ar
 
 -- ---- all rules
 
-pub record AllLocated (g offsets starts : List ℕ) (r n : ℕ) : Type 0 where
+pub record AllLocated (g starts : List ℕ) (r n : ℕ) : Type 0 where
   pub good : read_table g ≡ Good
-  pub offsets_is : offsets ≡ offsets_for g Good
   pub end_is : n ≡ rules g
   pub few : n ≤ most_rules
   pub inside : r ≤ n
   pub size : length starts ≡ start_words
   pub located : (q : ℕ) → q < r → HasRule g starts q
 
-pub all_start : (g offsets starts : List ℕ) (n : ℕ) → read_table g ≡ Good → offsets ≡ offsets_for g Good → length starts ≡ start_words → n ≡ rules g
-    → AllLocated g offsets starts 0 n
-all_start g offsets starts n good e size end =
+pub all_start : (g starts : List ℕ) (n : ℕ) → read_table g ≡ Good → length starts ≡ start_words → n ≡ rules g → AllLocated g starts 0 n
+all_start g starts n good size end =
     record {
       good = good;
-      offsets_is = e;
       end_is = end;
       few = omega (arith, end, (accepted g good).rules_fit);
       inside = omega arith;
@@ -144,18 +148,13 @@ all_start g offsets starts n good e size end =
     }
 
 -- what is handed to the next rule
-pub next_known : {g offsets starts : List ℕ} {r n : ℕ} → AllLocated g offsets starts r n → r < n → r < rules g
+pub next_known : {g starts : List ℕ} {r n : ℕ} → AllLocated g starts r n → r < n → r < rules g
 next_known w h = omega (arith, w.end_is)
 
-pub next_start : {g offsets starts : List ℕ} {r n p : ℕ} → AllLocated g offsets starts r n → r < n → p ≡ word offsets r → p ≡ rule_at g r
-next_start {g} {offsets} {starts} {r} {n} {p} w h e = offset_is g offsets r p w.offsets_is (omega (arith, w.end_is)) e
-
-pub all_turn : {g offsets starts next : List ℕ} {r n : ℕ} → AllLocated g offsets starts r n → r < n → RuleLocated g r starts next
-    → AllLocated g offsets next (r + 1) n
-all_turn {g} {offsets} {starts} {next} {r} w h v =
+pub all_turn : {g starts next : List ℕ} {r n : ℕ} → AllLocated g starts r n → r < n → RuleLocated g r starts next → AllLocated g next (r + 1) n
+all_turn {g} {starts} {next} {r} w h v =
     record {
       good = w.good;
-      offsets_is = w.offsets_is;
       end_is = w.end_is;
       few = w.few;
       inside = omega arith;
@@ -168,5 +167,5 @@ all_turn {g} {offsets} {starts} {next} {r} w h v =
           (λ b. subst⁻¹ (λ (x : ℕ). HasRule g next x) b v.here) (below_suc q r (omega arith));
     }
 
-pub all_finish : {g offsets starts : List ℕ} {r n : ℕ} → AllLocated g offsets starts r n → n ≤ r → Located g starts
+pub all_finish : {g starts : List ℕ} {r n : ℕ} → AllLocated g starts r n → n ≤ r → Located g starts
 all_finish w h = λ q l. w.located q (omega (arith, w.end_is))

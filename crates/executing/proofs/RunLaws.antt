@@ -1,7 +1,7 @@
--- The loop of a run: what is left of the budget says how many actions are done, and the plan's word the place of the node on top; so a budget used up with a
+-- The loop of a run: its turns are the actions that are done, and the plan's word says the place of the node on top; so a budget used up with a
 -- node on top stops, and a leave that finds no node below is the last of the total. Assumes nothing.
-use Prim.Native.Nat.{ℕ, zero, suc, ◌+◌, ◌*◌, ◌-◌, ◌/◌, ◌≤◌, ◌<◌}
-use mathlib.Core.Path.{◌≡◌, refl, sym, ◌∙◌, ap, subst, subst⁻¹}
+use Prim.Native.Nat.{ℕ, zero, suc, ◌+◌, ◌*◌, ◌-◌, ◌≤◌, ◌<◌}
+use mathlib.Core.Path.{◌≡◌, refl, sym, ◌∙◌, ap, subst⁻¹}
 use mathlib.Core.List.{List, ◌∷◌}
 use native.Mathlib.Omega.{arith}
 use lib.IntN.{ℤ}
@@ -16,14 +16,18 @@ use Rattle.plans.specs.Sequences.{sequence_at, action_at}
 use Rattle.runs.specs.Automaton.{started, after}
 use Rattle.runs.specs.Run.{ran}
 use Rattle.runs.proofs.Steps.{all_zero}
-use Rattle.grammar.specs.declared.Verdict.TheVariants.{Good}
+use Rattle.grammar.specs.Verdicts.{Good}
 use Rattle.grammar.specs.Table.{rules}
 use Rattle.grammar.specs.Reading.{read_table}
 use Rattle.trees.specs.Checking.{check_tree}
 use Rattle.runs.specs.Sound.{Sound}
+use Rattle.executing.specs.declared.Action as A
+use Rattle.executing.specs.declared.Frame.{Frame}
+use Rattle.executing.specs.declared.Stack.{Stack}
+use Rattle.executing.specs.declared.Top.{Top}
 use Rattle.executing.specs.Located.{Located}
-use Rattle.executing.specs.State.{stack_of, relative, places_of, machine_of, written, Placed, Standing, Visited, Resumed}
-use Rattle.executing.proofs.StateLaws.{same_machine}
+use Rattle.executing.specs.State.{stack_of, relative, places_of, machine_of, nodes_in, marks_in, written, Placed, Standing, Visited, Resumed, Popped, StandsFor}
+use Rattle.executing.proofs.StateLaws.{same_machine, no_frame, nodes_zero, marks_zero}
 use Rattle.executing.proofs.HeldLaws.{RunReady, Core, facts, facts_of, values_kept, inside, rule_known_law, shallow, place_fits_law, core_valued, core_cell}
 use Rattle.executing.proofs.TurnLaws.{core_compute, core_visit, core_leave, core_done, core_done_values, core_parent, core_stopped, core_stopped_values}
 
@@ -60,13 +64,12 @@ running w =
       values_size = values_kept w;
     }
 
--- The loop's invariant: what is left of the budget says how many actions are done, and the plan's word says the place.
-pub record LoopAt (g p t starts : List ℕ) (entry : List ℤ) (stack marks places : List ℕ) (depth n r at : ℕ) (values : List ℤ) (left budget : ℕ) :
+-- The loop's invariant: the plan's word says the place.
+pub record LoopAt (g p t starts : List ℕ) (entry : List ℤ) (stack marks places : List ℕ) (depth n r at : ℕ) (values : List ℤ) (count budget : ℕ) :
     Type 0 where
-  pub most : left ≤ budget
   pub place : ℕ
   pub at_is : at ≡ sequence_at r + 1 + place
-  pub runs : Running g p t starts entry stack marks places depth n r place values (budget - left) budget
+  pub runs : Running g p t starts entry stack marks places depth n r place values count budget
 
 -- "It starts with the root at its first action."
 checked_start : {g p t starts : List ℕ} {entry : List ℤ} {r : ℕ} → RunReady g p t starts entry → r ≡ rule_of t 0 → (budget : ℕ)
@@ -99,104 +102,115 @@ module _ (g p t starts : List ℕ) (entry : List ℤ) (good : read_table g ≡ G
       let w = running (begun 0) in
       record { inside = w.node; small = omega (arith, w.node, w.nodes_fit); rule = w.rule }
 
-  pub left_start : {n r at : ℕ} → Standing t 0 0 n r at → (budget : ℕ)
-      → LoopAt g p t starts entry (replicate most_nodes 0) (replicate most_nodes 0) (replicate most_nodes 0) 0 n r at entry budget budget
-  left_start {n} {r} {at} s budget =
-      let none : 0 ≡ budget - budget = omega arith in
+  pub loop_start : {n r at : ℕ} → Standing t 0 0 n r at → (budget : ℕ)
+      → LoopAt g p t starts entry (nodes_in (replicate most_nodes no_frame)) (marks_in (replicate most_nodes no_frame)) (replicate most_nodes 0) 0 n r at entry 0 budget
+  loop_start {n} {r} {at} s budget =
       let zeros : List ℕ = replicate most_nodes 0 in
-      record {
-        most = omega arith;
+      subst⁻¹ (λ (l : List ℕ). LoopAt g p t starts entry l (marks_in (replicate most_nodes no_frame)) zeros 0 n r at entry 0 budget) (nodes_zero most_nodes)
+      (subst⁻¹ (λ (l : List ℕ). LoopAt g p t starts entry zeros l zeros 0 n r at entry 0 budget) (marks_zero most_nodes)
+      (record {
         place = 0;
         at_is = omega (arith, s.at_is);
         runs =
             running
-            (subst (λ (k : ℕ). Core g p t starts entry zeros zeros zeros 0 n r 0 entry k budget) none
             (subst⁻¹ (λ (m : ℕ). Core g p t starts entry zeros zeros zeros 0 m r 0 entry 0 budget) s.node_is
-            (subst⁻¹ (λ (q : ℕ). Core g p t starts entry zeros zeros zeros 0 0 q 0 entry 0 budget) s.rule_is (begun budget))));
-      }
+            (subst⁻¹ (λ (q : ℕ). Core g p t starts entry zeros zeros zeros 0 0 q 0 entry 0 budget) s.rule_is (begun budget)));
+      }))
 
-module _ {g p t starts : List ℕ} {entry : List ℤ} {stack marks places : List ℕ} {depth n r at : ℕ} {values : List ℤ} {left budget : ℕ}
-    (w : LoopAt g p t starts entry stack marks places depth n r at values left budget) where
-  top : Core g p t starts entry stack marks places depth n r w.place values (budget - left) budget
+module _ {g p t starts : List ℕ} {entry : List ℤ} {stack marks places : List ℕ} {depth n r at : ℕ} {values : List ℤ} {count budget : ℕ}
+    (w : LoopAt g p t starts entry stack marks places depth n r at values count budget) where
+  top : Core g p t starts entry stack marks places depth n r w.place values count budget
   top = w.runs.core
 
-  pub stopped_answer : left ≡ 0 → R.TheVariants.Stopped budget ≡ (ran g p t entry budget).answer
-  stopped_answer e = core_stopped top (omega arith)
+  pub stopped_answer : budget ≤ count → R.TheVariants.Stopped budget ≡ (ran g p t entry budget).answer
+  stopped_answer e = core_stopped top (omega (arith, top.allowed))
 
-  pub stopped_values : left ≡ 0 → values ≡ (ran g p t entry budget).machine.values
-  stopped_values e = core_stopped_values top (omega arith)
+  pub stopped_values : budget ≤ count → values ≡ (ran g p t entry budget).machine.values
+  stopped_values e = core_stopped_values top (omega (arith, top.allowed))
 
-  module _ {action : ℕ} (more : left ≡ 0 → ⊥) (is_word : action ≡ word p at) where
-    count : budget - left + 1 ≡ budget - (left - 1)
-    count = omega (arith, w.most)
-
-    spent : budget - left < budget
-    spent = omega (arith, w.most)
-
+  module _ {action : ℕ} (spent : count < budget) (is_word : action ≡ word p at) where
     is_action : action ≡ action_at p r w.place
     unfolding action_at
     is_action = let e : at ≡ sequence_at r + 1 + w.place = omega (arith, w.at_is) in is_word ∙ ap (word p) e
 
     -- what a compute reads and writes is there
-    pub valued : action < 64 → {f : ℕ} → f ≡ word starts (most_occurrences * r + action) → Valued g f t n (length values)
-    valued h e = core_valued top is_action h e
+    pub valued : {o f : ℕ} → StandsFor action (A.TheVariants.Compute o) → f ≡ word starts (most_occurrences * r + o) → Valued g f t n (length values)
+    valued {o} {f} h e = core_valued top is_action h.0 (e ∙ ap (λ (x : ℕ). word starts (most_occurrences * r + x)) h.1)
 
-    pub cell_there : action < 64 → cell t n action < length values
-    cell_there h = core_cell top is_action h
+    pub cell_there : {o : ℕ} → StandsFor action (A.TheVariants.Compute o) → cell t n o < length values
+    cell_there h = subst⁻¹ (λ (x : ℕ). cell t n x < length values) h.1 (core_cell top is_action h.0)
 
-    pub child_placed : 64 ≤ action → action < 128 → Placed t (child t n ((action - 64) / 8))
-    child_placed h l =
-        let v = running (core_visit top is_action h l refl refl refl spent) in
-        record { inside = v.node; small = omega (arith, v.node, v.nodes_fit); rule = v.rule }
+    pub child_placed : {i : ℕ} → StandsFor action (A.TheVariants.Visit i) → Placed t (child t n i)
+    child_placed {i} h =
+        let v = running (core_visit top is_action h.0 h.1.0 refl refl refl spent) in
+        subst⁻¹ (λ (x : ℕ). Placed t (child t n x)) h.1.1 (record { inside = v.node; small = omega (arith, v.node, v.nodes_fit); rule = v.rule })
 
-    pub parent_there : 128 ≤ action → (depth ≡ 0 → ⊥) → word stack (depth - 1) < nodes t
-    parent_there h d = core_parent top is_action h (omega arith) refl
+    pub parent_there : 128 ≤ action → {m : ℕ} (d : ℕ) → depth ≡ d + 1 → m ≡ word stack d → m < nodes t
+    parent_there h d e a = core_parent top is_action h (omega arith) a
 
     -- one action more
-    pub turn_compute : action < 64 → {f : ℕ} → f ≡ word starts (most_occurrences * r + action) → {after : List ℤ} → after ≡ written g t values n action f
-        → LoopAt g p t starts entry stack marks places depth n r (at + 1) after (left - 1) budget
-    turn_compute h e {after} q =
-        record {
-          most = omega (arith, w.most);
-          place = w.place + 1;
-          at_is = omega (arith, w.at_is);
-          runs =
-              subst (λ (k : ℕ). Running g p t starts entry stack marks places depth n r (w.place + 1) after k budget) count
-              (running (core_compute top is_action h e q spent));
-        }
+    pub turn_compute : {o f : ℕ} → StandsFor action (A.TheVariants.Compute o) → f ≡ word starts (most_occurrences * r + o) → {after : List ℤ}
+        → after ≡ written g t values n o f → LoopAt g p t starts entry stack marks places depth n r (at + 1) after (count + 1) budget
+    turn_compute {o} {f} h e {after} q =
+        let e' : f ≡ word starts (most_occurrences * r + action) = e ∙ ap (λ (x : ℕ). word starts (most_occurrences * r + x)) h.1 in
+        let q' : after ≡ written g t values n action f = q ∙ ap (λ (x : ℕ). written g t values n x f) h.1 in
+        record { place = w.place + 1; at_is = omega (arith, w.at_is); runs = running (core_compute top is_action h.0 e' q' spent) }
 
-    pub turn_visit : 64 ≤ action → action < 128 → {stack' marks' : List ℕ} {c r' q : ℕ} → stack' ≡ set stack depth n → marks' ≡ set marks depth (at + 1)
-        → Visited t places n ((action - 64) / 8) c r' q
-        → LoopAt g p t starts entry stack' marks' places (depth + 1) c r' q values (left - 1) budget
-    turn_visit h l {stack'} {marks'} {c} {r'} {q} a b v =
-        subst⁻¹ (λ (s : List ℕ). LoopAt g p t starts entry s marks' places (depth + 1) c r' q values (left - 1) budget) a
-        (subst⁻¹ (λ (m : List ℕ). LoopAt g p t starts entry (set stack depth n) m places (depth + 1) c r' q values (left - 1) budget) b
+    pub turn_visit : {i : ℕ} → StandsFor action (A.TheVariants.Visit i) → {stack' marks' : List ℕ} {d c r' q : ℕ} → d ≡ depth + 1 → stack' ≡ set stack depth n
+        → marks' ≡ set marks depth (at + 1) → Visited t places n i c r' q → LoopAt g p t starts entry stack' marks' places d c r' q values (count + 1) budget
+    turn_visit h {stack'} {marks'} {d} {c} {r'} {q} i a b v =
+        subst⁻¹ (λ (x : ℕ). LoopAt g p t starts entry stack' marks' places x c r' q values (count + 1) budget) i
+        (subst⁻¹ (λ (s : List ℕ). LoopAt g p t starts entry s marks' places (depth + 1) c r' q values (count + 1) budget) a
+        (subst⁻¹ (λ (m : List ℕ). LoopAt g p t starts entry (set stack depth n) m places (depth + 1) c r' q values (count + 1) budget) b
         (record {
-          most = omega (arith, w.most);
           place = word places c;
           at_is = v.at_is;
-          runs =
-              subst
-              (λ (k : ℕ). Running g p t starts entry (set stack depth n) (set marks depth (at + 1)) places (depth + 1) c r' (word places c) values k budget)
-              count (running (core_visit top is_action h l v.node_is v.rule_is (omega (arith, w.at_is)) spent));
-        }))
+          runs = running (core_visit top is_action h.0 h.1.0 (v.node_is ∙ ap (child t n) h.1.1) v.rule_is (omega (arith, w.at_is)) spent);
+        })))
 
-    pub turn_leave : 128 ≤ action → (depth ≡ 0 → ⊥) → {x m r' q : ℕ} → x ≡ sequence_at r + 1 → Resumed t stack marks (depth - 1) m r' q
-        → LoopAt g p t starts entry stack marks (set places n (at + 1 - x)) (depth - 1) m r' q values (left - 1) budget
-    turn_leave h d {x} {m} {r'} {q} i v =
+    pub turn_leave : 128 ≤ action → (d : ℕ) {x m r' q : ℕ} → depth ≡ d + 1 → x ≡ sequence_at r + 1 → m ≡ word stack d → q ≡ word marks d → r' ≡ rule_of t m
+        → LoopAt g p t starts entry stack marks (set places n (at + 1 - x)) d m r' q values (count + 1) budget
+    turn_leave h d {x} {m} {r'} {q} e i a b f =
         record {
-          most = omega (arith, w.most);
           place = relative t m q;
-          at_is = omega (arith, v.rule_is, top.high (depth - 1) (omega arith), ap (rule_of t) v.node_is, v.at_is);
-          runs =
-              subst
-              (λ (k : ℕ). Running g p t starts entry stack marks (set places n (at + 1 - x)) (depth - 1) m r' (relative t m q) values k budget)
-              count (running (core_leave top is_action h (omega arith) v.node_is v.at_is (omega (arith, w.at_is)) v.rule_is spent));
+          at_is = omega (arith, f, top.high d (omega arith), ap (rule_of t) a, b);
+          runs = running (core_leave top is_action h (omega arith) a b (omega (arith, w.at_is)) f spent);
         }
 
     -- the last leave
-    pub done_answer : 128 ≤ action → depth ≡ 0 → R.TheVariants.Done (budget - (left - 1)) ≡ (ran g p t entry budget).answer
-    done_answer h e = ap R.TheVariants.Done (sym count) ∙ core_done top is_action h e spent
+    pub done_answer : 128 ≤ action → depth ≡ 0 → R.TheVariants.Done (count + 1) ≡ (ran g p t entry budget).answer
+    done_answer h e = core_done top is_action h e spent
 
     pub done_values : 128 ≤ action → depth ≡ 0 → values ≡ (ran g p t entry budget).machine.values
     done_values h e = core_done_values top is_action h e spent
+
+-- The same of the stack and the node on top as the code has them.
+abbrev pub AtTurn : List ℕ → List ℕ → List ℕ → List ℕ → List ℤ → Stack → List ℕ → Top → List ℤ → ℕ → ℕ → Type 0
+AtTurn g p t starts entry stack places top values count budget =
+    LoopAt g p t starts entry (nodes_in stack.frames) (marks_in stack.frames) places stack.depth top.n top.r top.at values count budget
+
+-- a leave pops the node below
+pub popped_there : {g p t starts : List ℕ} {entry : List ℤ} {stack stack' : Stack} {places : List ℕ} {top : Top} {values : List ℤ} {count budget action : ℕ}
+    {below : Frame} → AtTurn g p t starts entry stack places top values count budget → count < budget → action ≡ word p top.at → 128 ≤ action
+    → Popped stack stack' below → below.node < nodes t
+popped_there {stack' = stack'} w l e h v = parent_there w l e h stack'.depth v.depth_is v.node_is
+
+pub popped_turn : {g p t starts : List ℕ} {entry : List ℤ} {stack stack' : Stack} {places : List ℕ} {top top' : Top} {values : List ℤ} {count budget action x : ℕ}
+    {below : Frame} → AtTurn g p t starts entry stack places top values count budget → count < budget → action ≡ word p top.at → 128 ≤ action
+    → x ≡ sequence_at top.r + 1 → Popped stack stack' below → Resumed t below top'.n top'.r top'.at
+    → AtTurn g p t starts entry stack' (set places top.n (top.at + 1 - x)) top' values (count + 1) budget
+popped_turn {g} {p} {t} {starts} {entry} {stack} {stack'} {places} {top} {top'} {values} {count} {budget} {action} {x} w l e h i v s =
+    subst⁻¹
+    (λ (f : List Frame). LoopAt g p t starts entry (nodes_in f) (marks_in f) (set places top.n (top.at + 1 - x)) stack'.depth top'.n top'.r top'.at values (count + 1) budget)
+    v.frames_are
+    (turn_leave w l e h stack'.depth v.depth_is i (s.node_is ∙ v.node_is) (s.at_is ∙ v.mark_is) s.rule_is)
+
+-- where the ways through a turn meet
+pub same_turn : {g p t starts : List ℕ} {entry : List ℤ} {stack stack' : Stack} {places places' : List ℕ} {top top' : Top} {values values' : List ℤ} {count budget : ℕ}
+    → stack' ≡ stack → places' ≡ places → top' ≡ top → values' ≡ values → AtTurn g p t starts entry stack places top values count budget
+    → AtTurn g p t starts entry stack' places' top' values' count budget
+same_turn {g} {p} {t} {starts} {entry} {stack} {stack'} {places} {places'} {top} {top'} {values} {values'} {count} {budget} a b c d w =
+    subst⁻¹ (λ (s : Stack). AtTurn g p t starts entry s places' top' values' count budget) a
+    (subst⁻¹ (λ (s : List ℕ). AtTurn g p t starts entry stack s top' values' count budget) b
+    (subst⁻¹ (λ (s : Top). AtTurn g p t starts entry stack places s values' count budget) c
+    (subst⁻¹ (λ (s : List ℤ). AtTurn g p t starts entry stack places top s count budget) d w)))

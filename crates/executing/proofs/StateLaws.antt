@@ -1,6 +1,6 @@
 -- The arrays of a run: what is written above the depth is not on the stack, a push and a pop move one node between the top and the arrays, and the place
 -- of a node that is not on the stack can be written before or after the marks are. Assumes nothing.
-use Prim.Native.Nat.{ℕ, zero, suc, ◌+◌, ◌^◌, ◌≤◌, ◌<◌}
+use Prim.Native.Nat.{ℕ, zero, suc, ◌+◌, ◌-◌, ◌^◌, ◌≤◌, ◌<◌}
 use mathlib.Core.Path.{◌≡◌, refl, sym, ◌∙◌, ap, ap₂, subst⁻¹}
 use mathlib.Core.Logic.{⊎_elim}
 use mathlib.Core.List.{List, ◌∷◌}
@@ -8,7 +8,8 @@ use native.Mathlib.Omega.{arith}
 use native.Mathlib.Numerals.{add-one}
 use lib.IntN.{ℤ}
 use lib.Signed.{mag}
-use lib.ListN.{length, set, length-set}
+use lib.ListN.{length, get_or, get_or-map, set, length-set, replicate}
+use Rattle.std.proofs.lemmas.List.{map-set}
 use lib.Seq.{get_or-set_same, get_or-set_other, set_comm}
 use mir.Syntax.{w32}
 use mir.Val.{to_z, of_z}
@@ -20,7 +21,8 @@ use Rattle.evaluating.proofs.PlaceLaws.{kept}
 use Rattle.runs.specs.Automaton.{Machine}
 use Rattle.runs.specs.Balance.{times}
 use Rattle.runs.proofs.Steps.{times_same, times_other}
-use Rattle.executing.specs.State.{stack_of, relative, places_of, written, Placed, Standing, Visited}
+use Rattle.executing.specs.declared.Frame.{Frame}
+use Rattle.executing.specs.State.{nodes_in, marks_in, Pushed, Popped, stack_of, relative, places_of, written, Placed, Standing, Visited}
 
 -- machines are equal by their parts
 pub same_machine : {s s' q q' : List ℕ} {v v' : List ℤ} → s ≡ s' → q ≡ q' → v ≡ v'
@@ -113,4 +115,41 @@ visited t places n i c x node rule at e f s =
       node_is = s.node_is ∙ e;
       rule_is = s.rule_is ∙ ap (rule_of t) (sym s.node_is);
       at_is = omega (arith, s.at_is, f, ap (word places) s.node_is);
+    }
+
+-- ---- frames
+
+-- a frame of zeros, as the array has them at first
+abbrev pub no_frame : Frame
+no_frame = record { node = 0; at = 0 }
+
+pub nodes_zero : (n : ℕ) → nodes_in (replicate n no_frame) ≡ replicate n 0
+unfolding nodes_in
+nodes_zero zero = refl
+nodes_zero (suc n) = ap (λ (s : List ℕ). 0 ∷ s) (nodes_zero n)
+
+pub marks_zero : (n : ℕ) → marks_in (replicate n no_frame) ≡ replicate n 0
+unfolding marks_in
+marks_zero zero = refl
+marks_zero (suc n) = ap (λ (s : List ℕ). 0 ∷ s) (marks_zero n)
+
+pub frame_pushed : (frames : List Frame) (depth n at : ℕ)
+    → Pushed (record { frames = frames; depth = depth }) (record { frames = set frames depth (record { node = n; at = at }); depth = depth + 1 }) n at
+unfolding nodes_in marks_in
+frame_pushed frames depth n at =
+    record {
+      depth_is = refl;
+      nodes_are = map-set (λ f. f.node) frames depth (record { node = n; at = at });
+      marks_are = map-set (λ f. f.at) frames depth (record { node = n; at = at });
+    }
+
+pub frame_popped : (frames : List Frame) (depth : ℕ) → (depth ≡ 0 → ⊥)
+    → Popped (record { frames = frames; depth = depth }) (record { frames = frames; depth = depth - 1 }) (get_or frames (depth - 1) no_frame)
+unfolding nodes_in marks_in
+frame_popped frames depth h =
+    record {
+      depth_is = omega arith;
+      frames_are = refl;
+      node_is = sym (get_or-map (λ f. f.node) frames (depth - 1) no_frame);
+      mark_is = sym (get_or-map (λ f. f.at) frames (depth - 1) no_frame);
     }

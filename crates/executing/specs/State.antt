@@ -1,13 +1,17 @@
--- The machine of a run in arrays. The node on top and its place are at hand; the nodes below it stand in `stack`, from the bottom up, of which the first
--- `depth` words count, and `marks` has for each the word of the plan at which it goes on. Every other node has its place in `places`.
+-- The machine of a run in arrays. The node on top and its place are at hand; the nodes below it stand in the frames of a stack, from the bottom up, of which
+-- the first `depth` count, each with the word of the plan at which it goes on: `stack` and `marks` are the lists of these two. Every other node has its
+-- place in `places`.
 -- For proofs of the code: no demand rests on it. Assumes nothing.
-use Rattle.std.specs.Prelude.{ℕ, zero, suc, ◌+◌, ◌-◌, ◌<◌, ◌≡◌, List, [], ◌∷◌, ℤ, take, set}
+use Rattle.std.specs.Prelude.{ℕ, zero, suc, ◌+◌, ◌-◌, ◌/◌, ◌≤◌, ◌<◌, ◌≡◌, List, [], ◌∷◌, ℤ, map, take, set}
 use Rattle.basics.specs.Lists.{word}
 use Rattle.grammar.specs.Limits.{most_rules}
 use Rattle.plans.specs.Sequences.{sequence_at}
 use Rattle.trees.specs.Tree.{most_nodes, nodes, rule_of, child, cell}
 use Rattle.evaluating.specs.FunctionPlaces.{value_from}
 use Rattle.runs.specs.Automaton.{Machine}
+use Rattle.executing.specs.declared.Action as A
+use Rattle.executing.specs.declared.Frame.{Frame}
+use Rattle.executing.specs.declared.Stack.{Stack}
 
 -- the first words of an array as a stack, the last of them on top
 unfoldable pub stack_of : List ℕ → ℕ → List ℕ
@@ -55,8 +59,34 @@ pub record Visited (t places : List ℕ) (n i node rule at : ℕ) : Type 0 where
   pub rule_is : rule ≡ rule_of t node
   pub at_is : at ≡ sequence_at rule + 1 + word places node
 
--- the node on top is the one that stands at a place of the stack, at its mark
-pub record Resumed (t stack marks : List ℕ) (d node rule at : ℕ) : Type 0 where
-  pub node_is : node ≡ word stack d
+-- the node on top is the one of a frame, at its word
+pub record Resumed (t : List ℕ) (below : Frame) (node rule at : ℕ) : Type 0 where
+  pub node_is : node ≡ below.node
   pub rule_is : rule ≡ rule_of t node
-  pub at_is : at ≡ word marks d
+  pub at_is : at ≡ below.at
+
+-- what a number of a plan stands for
+abbrev pub StandsFor : ℕ → A.Action → Type 0
+StandsFor number (A.TheVariants.Compute o) = (number < 64) × (o ≡ number)
+StandsFor number (A.TheVariants.Visit i) = (64 ≤ number) × ((number < 128) × (i ≡ (number - 64) / 8))
+StandsFor number A.TheVariants.Leave = 128 ≤ number
+
+-- the nodes of frames, and the words at which they go on
+unfoldable pub nodes_in : List Frame → List ℕ
+nodes_in frames = map (λ f. f.node) frames
+
+unfoldable pub marks_in : List Frame → List ℕ
+marks_in frames = map (λ f. f.at) frames
+
+-- node n is pushed, to go on at a word
+pub record Pushed (before after : Stack) (n at : ℕ) : Type 0 where
+  pub depth_is : after.depth ≡ before.depth + 1
+  pub nodes_are : nodes_in after.frames ≡ set (nodes_in before.frames) before.depth n
+  pub marks_are : marks_in after.frames ≡ set (marks_in before.frames) before.depth at
+
+-- the last frame is popped
+pub record Popped (before after : Stack) (below : Frame) : Type 0 where
+  pub depth_is : before.depth ≡ after.depth + 1
+  pub frames_are : after.frames ≡ before.frames
+  pub node_is : below.node ≡ word (nodes_in before.frames) after.depth
+  pub mark_is : below.at ≡ word (marks_in before.frames) after.depth

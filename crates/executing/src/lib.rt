@@ -1,13 +1,11 @@
-// The run of a plan over a checked tree: the stack automaton of 000, section 6.3, with its stack and places in arrays and the node on top in locals.
+// The run of a plan over a checked tree: the stack automaton of 000, section 6.3, with its stack and places in arrays and the node on top in a local.
 #![tactic(auto)]
 
-ghost use Rattle.std.specs.Prelude.{◌≡◌, ◌+◌, ◌*◌, ◌≤◌, ◌<◌, length, set};
+ghost use Rattle.std.specs.Prelude.{◌≡◌, ◌+◌, ◌*◌, ◌≤◌, ◌<◌, MatchOption, length, set};
 ghost use Rattle.basics.specs.Lists.{word};
-ghost use Rattle.grammar.specs.declared.Verdict.TheVariants.{Good};
 ghost use Rattle.grammar.specs.Limits.{most_rules, most_occurrences, plan_words};
-ghost use Rattle.grammar.specs.Table as table;
-ghost use Rattle.grammar.specs.Reading.{read_table};
-ghost use Rattle.access.specs.Offsets.{offsets_for};
+ghost use Rattle.grammar.specs.Table as tables;
+ghost use Rattle.grammar.specs.Verdicts.{Good};
 ghost use Rattle.plans.specs.Sequences.{sequence_at};
 ghost use Rattle.trees.specs.Tree as trees;
 ghost use Rattle.trees.specs.Checking.{check_tree};
@@ -17,8 +15,8 @@ ghost use Rattle.runs.specs.Run as runs;
 ghost use Rattle.executing.specs.Located as located;
 ghost use Rattle.executing.specs.State as state;
 
-use access::known;
-use grammar::{MOST_RULES, Offsets, ROWS, RULE_WORDS, SET_WORDS};
+use access::{Table, known};
+use grammar::{MOST_RULES, ROWS, RULE_WORDS, SET_WORDS};
 use runs::Ran;
 use trees::MOST_NODES;
 
@@ -32,20 +30,19 @@ type Nodes = [u16; MOST_NODES];
 
 // Notes that the function of occurrence o of rule r starts at word f.
 fn note(starts: &mut Starts, r: usize, o: usize, f: usize)
-    requires starts_len { length starts.old ≡ located.start_words }
-    requires r_lt_most_rules { (r < most_rules) × ((o < most_occurrences) × (f < 65536)) }
+    requires { (r < most_rules) × ((o < most_occurrences) × (f < 65536)) }
     ensures { starts.new ≡ set starts.old (most_occurrences * r + o) f }
 {
     starts[ROWS * r + o] = f as u16;
 }
 
-// Notes where each function of rule r, which starts at word p, starts: at its target.
-fn locate_rule(words: &[u16], r: usize, p: usize, starts: &mut Starts)
-    requires words_value { read_table words.now ≡ Good }
-    requires r_bound { (r < table.rules words.now) × (p ≡ table.rule_at words.now r) }
-    requires starts_len { length starts.old ≡ located.start_words }
-    ensures { located.RuleLocated words.now r starts.old starts.new }
+// Notes where each function of rule r starts: at its target.
+fn locate_rule(table: &Table<'_>, r: usize, starts: &mut Starts)
+    requires { r < tables.rules table.now.words.now }
+    ensures { located.RuleLocated table.now.words.now r starts.old starts.new }
 {
+    let words = table.words;
+    let p = table.rule_at(r);
     let mut f = access::first_function(words, p);
     for k in 0..access::function_count(words, p) {
         note(starts, r, access::word(words, f), f);
@@ -53,15 +50,13 @@ fn locate_rule(words: &[u16], r: usize, p: usize, starts: &mut Starts)
     }
 }
 
-// Where the function of each occurrence starts: word 64 r + o for occurrence o of rule r, so that a run need not look for it.
-fn function_starts(words: &[u16], offsets: &Offsets, starts: &mut Starts)
-    requires words_value { read_table words.now ≡ Good }
-    requires offsets_value { offsets.now ≡ offsets_for words.now Good }
-    requires starts_len { length starts.old ≡ located.start_words }
-    ensures { located.Located words.now starts.new }
+// Where the function of each occurrence starts: word 64 r + o for occurrence o of rule r, so that a run need not look for it. The words are lent, since
+// handing them out would copy them.
+fn function_starts(table: &Table<'_>, starts: &mut Starts)
+    ensures { located.Located table.now.words.now starts.new }
 {
-    for r in 0..access::rules(words) {
-        locate_rule(words, r, access::rule_at(offsets, r), starts);
+    for r in 0..access::rules(table.words) {
+        locate_rule(table, r, starts);
     }
 }
 
@@ -81,12 +76,26 @@ fn first_action(r: usize) -> usize
     SET_WORDS + RULE_WORDS * r + 1
 }
 
-// Word i of an array that has one for each node.
-fn held(array: &Nodes, i: usize) -> usize
-    requires { i < trees.most_nodes }
-    ensures { (result ≡ word array.now i) × (result < 65536) }
-{
-    known(array, i)
+// An action of a plan: to compute an occurrence, to visit the child at a position, or to leave.
+enum Action {
+    Compute(usize),
+    Visit(usize),
+    Leave,
+}
+
+// The action that a plan's word stands for.
+impl From<usize> for Action {
+    ghost from_gives = { λ number action. state.StandsFor number action };
+
+    fn from(number: usize) -> Action {
+        if number < 64 {
+            return Action::Compute(number);
+        }
+        if number < 128 {
+            return Action::Visit((number - 64) / 8);
+        }
+        Action::Leave
+    }
 }
 
 // The rule of node n, and its child at position i.
@@ -144,92 +153,114 @@ fn child_top(tree: &[u16], places: &Nodes, n: usize, i: usize) -> Top
     ensures { state.Visited tree.now places.now n i result.n result.r result.at }
 {
     let c = child(tree, n, i);
-    top_at(tree, c, held(places, c))
+    top_at(tree, c, known(places, c))
 }
 
-// The node below: it goes on where it was left.
-fn node_below(tree: &[u16], stack: &Nodes, marks: &Nodes, depth: usize) -> Top
-    requires { (depth < trees.most_nodes) × (word stack.now depth < trees.nodes tree.now) }
-    ensures { state.Resumed tree.now stack.now marks.now depth result.n result.r result.at }
-{
-    let n = held(stack, depth);
-    Top {
-        n,
-        r: rule_of(tree, n),
-        at: held(marks, depth),
+// A node that has another above it, and the plan's word at which it goes on.
+#[derive(Clone, Copy)]
+struct Frame {
+    node: u16,
+    at: u16,
+}
+
+impl Frame {
+    // The node on top again.
+    fn resumed(self, tree: &[u16]) -> Top
+        requires { self.node < trees.nodes tree.now }
+        ensures { state.Resumed tree.now self result.n result.r result.at }
+    {
+        let n = self.node as usize;
+        Top {
+            n,
+            r: rule_of(tree, n),
+            at: self.at as usize,
+        }
     }
 }
 
-// Notes the node on top, to come back to it at word `at`.
-fn push(stack: &mut Nodes, marks: &mut Nodes, depth: usize, n: usize, at: usize)
-    requires stack_len { (length stack.old ≡ trees.most_nodes) × (length marks.old ≡ trees.most_nodes) }
-    requires depth_lt_most_nodes { (depth < trees.most_nodes) × ((n < 65536) × (at < 65536)) }
-    ensures stack_after { stack.new ≡ set stack.old depth n }
-    ensures marks_after { marks.new ≡ set marks.old depth at }
-{
-    stack[depth] = n as u16;
-    marks[depth] = at as u16;
+// The nodes below the one on top, from the bottom up.
+#[derive(Drop)]
+struct Stack {
+    frames: [Frame; MOST_NODES],
+    depth: usize,
+}
+
+impl Stack {
+    // Notes node n, to come back to it at word `at`.
+    fn push(&mut self, n: usize, at: usize)
+        requires { (self.old.depth < trees.most_nodes) × ((n < 65536) × (at < 65536)) }
+        ensures { state.Pushed self.old self.new n at }
+    {
+        self.frames[self.depth] = Frame {
+            node: n as u16,
+            at: at as u16,
+        };
+        self.depth += 1;
+    }
+
+    // The node that was pushed last, if there is one.
+    fn pop(&mut self) -> Option<Frame>
+        requires { self.old.depth ≤ trees.most_nodes }
+        ensures { MatchOption result (self.old.depth ≡ 0) (λ f. state.Popped self.old self.new f) }
+    {
+        if self.depth == 0 {
+            return None;
+        }
+        self.depth -= 1;
+        Some(self.frames[self.depth])
+    }
 }
 
 // Runs the plan over the tree until the stack is empty or the budget is used up: a compute writes one value, a visit pushes the child, a leave pops.
 // The node on top goes on word by word of the plan; its place is written when it is left, and read when it is visited again.
 pub fn execute(
-    words: &[u16],
-    offsets: &Offsets,
+    table: &Table<'_>,
     plan: &[u16],
     tree: &[u16],
     values: &mut [i32],
     budget: u32,
 ) -> Ran
-    requires words_value { read_table words.now ≡ Good }
-    requires offsets_value { offsets.now ≡ offsets_for words.now Good }
-    requires sound { Sound words.now plan.now }
-    requires words_in_bounds { plan_words (table.rules words.now) ≤ length plan.now }
-    requires values_value { check_tree words.now tree.now (length values.old) ≡ Good }
-    ensures value { result ≡ (runs.ran words.now plan.now tree.now values.old budget).answer }
-    ensures values_after { values.new ≡ (runs.ran words.now plan.now tree.now values.old budget).machine.values }
+    requires sound { Sound table.now.words.now plan.now }
+    requires words_in_bounds { plan_words (tables.rules table.now.words.now) ≤ length plan.now }
+    requires values_value { check_tree table.now.words.now tree.now (length values.old) ≡ Good }
+    ensures value { result ≡ (runs.ran table.now.words.now plan.now tree.now values.old budget).answer }
+    ensures values_after { values.new ≡ (runs.ran table.now.words.now plan.now tree.now values.old budget).machine.values }
 {
     let mut starts = [0u16; STARTS];
-    function_starts(words, offsets, &mut starts);
-    // The nodes below the one on top, and for each the plan's word at which it goes on.
-    let mut stack = [0u16; MOST_NODES];
-    let mut marks = [0u16; MOST_NODES];
-    // For each other node the place of its sequence at which it goes on: a child resumes after its last leave.
+    function_starts(table, &mut starts);
+    let mut stack = Stack {
+        frames: [Frame { node: 0, at: 0 }; MOST_NODES],
+        depth: 0,
+    };
+    // For each node that is not on the stack the place of its sequence at which it goes on: a child resumes after its last leave.
     let mut places = [0u16; MOST_NODES];
-    let mut depth: usize = 0;
-    let root = top_at(tree, 0, 0);
-    let mut n = root.n;
-    let mut r = root.r;
-    let mut at = root.at;
-    let mut left = budget;
-    loop {
-        if left == 0 {
-            return Ran::Stopped(budget);
+    let mut top = top_at(tree, 0, 0);
+    for spent in 0..budget {
+        let action = known(plan, top.at);
+        match Action::from(action) {
+            Action::Compute(o) => {
+                compute(
+                    table.words,
+                    start_of(&starts, top.r, o),
+                    tree,
+                    values,
+                    top.n,
+                    o,
+                );
+                top.at += 1;
+            }
+            Action::Visit(i) => {
+                stack.push(top.n, top.at + 1);
+                top = child_top(tree, &places, top.n, i);
+            }
+            Action::Leave => {
+                places[top.n] = (top.at + 1 - first_action(top.r)) as u16;
+                let Some(below) = stack.pop() else {
+                    return Ran::Done(spent + 1);
+                };
+                top = below.resumed(tree);
+            }
         }
-        left -= 1;
-        let action = known(plan, at);
-        if action < 64 {
-            compute(words, start_of(&starts, r, action), tree, values, n, action);
-            at += 1;
-            continue;
-        }
-        if action < 128 {
-            push(&mut stack, &mut marks, depth, n, at + 1);
-            depth += 1;
-            let visited = child_top(tree, &places, n, (action - 64) / 8);
-            n = visited.n;
-            r = visited.r;
-            at = visited.at;
-            continue;
-        }
-        places[n] = (at + 1 - first_action(r)) as u16;
-        if depth == 0 {
-            return Ran::Done(budget - left);
-        }
-        depth -= 1;
-        let below = node_below(tree, &stack, &marks, depth);
-        n = below.n;
-        r = below.r;
-        at = below.at;
     }
+    Ran::Stopped(budget)
 }

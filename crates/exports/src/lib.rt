@@ -5,9 +5,8 @@ ghost use Rattle.std.specs.Prelude.{◌≡◌};
 ghost use Rattle.refusals.specs.Numbers.{number_of, place_of, second_of};
 ghost use Rattle.exports.specs.Answered as answered;
 
-use plans::Planned;
 use refusals::Refusal;
-use runs::Ran;
+use runs::{Ran, Report};
 
 // Accepted or done; stopped by the budget; refused.
 const DONE: u32 = 0;
@@ -23,9 +22,9 @@ fn refuse(refusal: Refusal, number: &mut u64, place: &mut u64, second: &mut u64)
     ensures place_after { place.new ≡ place_of refusal }
     ensures second_after { second.new ≡ second_of refusal }
 {
-    *number = refusals::number(refusal) as u64;
-    *place = refusals::place(refusal) as u64;
-    *second = refusals::second_place(refusal) as u64;
+    *number = refusal.number() as u64;
+    *place = refusal.place() as u64;
+    *second = refusal.second_place() as u64;
     REFUSED
 }
 
@@ -48,11 +47,11 @@ pub extern "C" fn skarnuth_plan(
     *place = 0;
     *second = 0;
     match planned {
-        Planned::Accepted(n) => {
+        Ok(n) => {
             *count = n as u64;
             DONE
         }
-        Planned::Refused(refusal) => refuse(refusal, number, place, second),
+        Err(refusal) => refuse(refusal, number, place, second),
     }
 }
 
@@ -72,21 +71,24 @@ pub extern "C" fn skarnuth_run(
 ) -> u32
     ensures { answered.RunAnswered words.now rows.old plan.old tree.now values.old budget result count.new number.new place.new second.new values.new rows.new plan.new }
 {
-    let report = runner::run(words, rows, plan, tree, values, budget);
-    let ran = report.ran;
+    let answered = runner::run(words, rows, plan, tree, values, budget);
     *count = 0;
     *number = 0;
     *place = 0;
     *second = 0;
-    match ran {
-        Ran::Done(n) => {
+    match answered {
+        Ok(Report { ran: Ran::Done(n) }) => {
             *count = n as u64;
             DONE
         }
-        Ran::Stopped(n) => {
+        Ok(
+            Report {
+                ran: Ran::Stopped(n),
+            },
+        ) => {
             *count = n as u64;
             STOPPED
         }
-        Ran::Refused(refusal) => refuse(refusal, number, place, second),
+        Err(refused) => refuse(refused, number, place, second),
     }
 }

@@ -16,7 +16,7 @@ use Rattle.basics.specs.Tests.{◌and◌}
 use Rattle.basics.specs.Lists.{word, tabulate, padded}
 use Rattle.basics.proofs.TestLaws.{and_intro, and_left, and_right}
 use Rattle.basics.proofs.ListLaws.{length_tabulate, get_d_tabulate}
-use Rattle.grammar.specs.declared.Verdict.TheVariants.{Good}
+use Rattle.grammar.specs.Verdicts.{Good}
 use Rattle.grammar.specs.Reading.{read_table}
 use Rattle.grammar.specs.Table.{symbols, attributes}
 use Rattle.grammar.proofs.AcceptedTable.{accepted}

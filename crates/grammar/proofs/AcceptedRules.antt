@@ -12,7 +12,7 @@ use Rattle.basics.specs.Tests.{◌implies◌}
 use Rattle.basics.specs.Lists.{word}
 use Rattle.basics.proofs.TestLaws.{and_left, and_right, or_cases, some_at, some_find, all_at, implies_use, eq_T, true_T}
 use Rattle.refusals.specs.declared.Refusal.TheVariants.{WrongClass}
-use Rattle.grammar.specs.declared.Verdict.TheVariants.{Good}
+use Rattle.grammar.specs.Verdicts.{Good}
 use Rattle.grammar.specs.Limits.{longest_right, most_functions, last_operation, most_occurrences}
 use Rattle.grammar.specs.Table.{
   symbols,

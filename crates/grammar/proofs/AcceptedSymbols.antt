@@ -10,10 +10,9 @@ use lib.ListN.{length}
 use Rattle.basics.specs.Tests.{◌and◌, ◌or◌}
 use Rattle.basics.proofs.TestLaws.{and_left, and_right, or_cases}
 use Rattle.refusals.specs.declared.Refusal.TheVariants.{EndsEarly, OutOfRange, WrongClass}
-use Rattle.grammar.specs.declared.Verdict.TheVariants.{Good}
 use Rattle.grammar.specs.Limits.{most_symbols, most_rules, most_attributes}
 use Rattle.grammar.specs.Table.{symbols, rules, start, symbol_at, kind, attributes, mask, nonterminal}
-use Rattle.grammar.specs.Verdicts.{unless}
+use Rattle.grammar.specs.Verdicts.{Good, unless}
 use Rattle.grammar.specs.Reading.{present, ranged, header, symbol_fault}
 use Rattle.grammar.specs.WellFormed.{SymbolFormed}
 use Rattle.grammar.proofs.VerdictLaws.{then_first, then_second, unless_passes}

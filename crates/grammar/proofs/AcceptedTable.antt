@@ -10,7 +10,7 @@ use lib.ListN.{length}
 use Rattle.basics.specs.Tests.{◌and◌}
 use Rattle.basics.proofs.TestLaws.{and_left, and_right, T_true, below_or_not}
 use Rattle.refusals.specs.declared.Refusal.TheVariants.{Undefined, LeftOver}
-use Rattle.grammar.specs.declared.Verdict.TheVariants.{Good}
+use Rattle.grammar.specs.Verdicts.{Good}
 use Rattle.grammar.specs.Limits.{most_occurrences}
 use Rattle.grammar.specs.Table.{symbols, rules, start, kind, mask, nonterminal, rule_at, right_length, occurrence, defining, position}
 use Rattle.grammar.specs.Reading.{header, symbol_fault, start_class, complete, rule_before, rule_fault, left_over, read_table}

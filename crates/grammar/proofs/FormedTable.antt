@@ -23,7 +23,7 @@ use Rattle.basics.proofs.TestLaws.{
   T_false,
   true_T,
 }
-use Rattle.grammar.specs.declared.Verdict.TheVariants.{Good}
+use Rattle.grammar.specs.Verdicts.{Good}
 use Rattle.grammar.specs.Limits.{
   most_symbols,
   most_rules,

@@ -12,7 +12,7 @@ use Rattle.basics.specs.Lists.{word}
 use Rattle.basics.proofs.TestLaws.{below_suc}
 use Rattle.grammar.specs.Limits.{longest_table}
 use Rattle.grammar.specs.Table.{rules, argument_words, length_at, functions_at, function_at, rule_at, right_length, functions}
-use Rattle.grammar.specs.declared.Verdict.TheVariants.{Good}
+use Rattle.grammar.specs.Verdicts.{Good}
 use Rattle.grammar.specs.Reading.{read_table}
 use Rattle.grammar.specs.WellFormed.{WellFormed, RuleFormed}
 use Rattle.grammar.proofs.AcceptedTable.{accepted}

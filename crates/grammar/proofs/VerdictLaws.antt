@@ -7,22 +7,29 @@ use mathlib.Core.Bool.{Bool, true, false}
 use native.Mathlib.Omega.{arith}
 use native.Mathlib.Nat.{not-suc-le-zero}
 use lib.Dec.{T}
+use Rattle.std.specs.Prelude.{Result, Ok, Err, IsErrAnd}
 use Rattle.basics.proofs.TestLaws.{below_suc}
 use Rattle.refusals.specs.declared.Refusal.{Refusal}
-use Rattle.grammar.specs.declared.Verdict.{Verdict}
-use Rattle.grammar.specs.declared.Verdict.TheVariants.{Good, Refused}
-use Rattle.grammar.specs.Verdicts.{◌then◌, unless, each}
+use Rattle.grammar.specs.Verdicts.{Verdict, Good, ◌then◌, unless, each}
+
+-- A `?` hands out the refusal that came, so its answer is what the law says of that one's.
+pub handed_out : {A : Type 0} (r : Result A Refusal) (n : Refusal) → IsErrAnd r (λ e. e ≡ n) → r ≡ Err n
+handed_out (Ok x) n h = absurd h
+handed_out (Err m) n h = ap (λ (k : Refusal). Err k) h
+
+pub handed : (r s u : Verdict) (n : Refusal) → IsErrAnd r (λ e. e ≡ n) → u ≡ Err n → u ≡ s → r ≡ s
+handed r s u n h d e = handed_out r n h ∙ (sym d ∙ e)
 
 -- a good chain is good in both parts
 pub then_first : (v w : Verdict) → v then w ≡ Good → v ≡ Good
 unfolding ◌then◌
-then_first Good w e = refl
-then_first (Refused n) w e = e
+then_first (Ok _) w e = refl
+then_first (Err n) w e = e
 
 pub then_second : (v w : Verdict) → v then w ≡ Good → w ≡ Good
 unfolding ◌then◌
-then_second Good w e = e
-then_second (Refused n) w e = absurd (let z : ◌≡◌ {A = ℕ} 0 1 = cc in omega arith)
+then_second (Ok _) w e = e
+then_second (Err n) w e = absurd (let z : ◌≡◌ {A = ℕ} 0 1 = cc in omega arith)
 
 pub then_good : (v w : Verdict) → v ≡ Good → w ≡ Good → v then w ≡ Good
 unfolding ◌then◌

@@ -12,8 +12,6 @@ use Rattle.refusals.specs.declared.Refusal.TheVariants.{
   Undefined,
   LeftOver,
 }
-use Rattle.grammar.specs.declared.Verdict.{Verdict}
-use Rattle.grammar.specs.declared.Verdict.TheVariants.{Good}
 use Rattle.grammar.specs.Limits.{
   most_symbols,
   most_rules,
@@ -45,7 +43,7 @@ use Rattle.grammar.specs.Table.{
   occurrence,
   defining,
 }
-use Rattle.grammar.specs.Verdicts.{◌then◌, unless, each}
+use Rattle.grammar.specs.Verdicts.{Verdict, Good, ◌then◌, unless, each}
 
 -- 1: "the words end too early", at the index of the missing word
 unfoldable pub present : List ℕ → ℕ → Verdict

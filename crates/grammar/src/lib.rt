@@ -1,7 +1,5 @@
-// The grammar table and its reading. `Verdict` is what reading answers; the definitions of `specs/` say which.
+// The grammar table and its reading: the definitions of `specs/` say what is answered. Here are only the sizes that the code counts with.
 #![tactic(auto)]
-
-use refusals::Refusal;
 
 // Document 01's sizes as the code counts with them; specs/Limits.antt has each with its sentence.
 pub const MOST_RULES: usize = 64;
@@ -14,9 +12,3 @@ pub const RULE_WORDS: usize = 112;
 
 // Where each rule of a table starts, by its number.
 pub type Offsets = [u16; MOST_RULES];
-
-#[derive(Clone, Copy)]
-pub enum Verdict {
-    Good,
-    Refused(Refusal),
-}

@@ -8,6 +8,7 @@ use mathlib.Core.List.{List}
 use native.Mathlib.Omega.{arith}
 use lib.Dec.{T, T_not, not_T, lt→ltb}
 use lib.ListN.{get_or}
+use Rattle.std.specs.Prelude.{Option, Some, None}
 use Rattle.bits.specs.Bit.{hasb}
 use Rattle.basics.specs.Tests.{some, least}
 use Rattle.basics.proofs.TestLaws.{least_is, least_one, some_at, some_find, chosen, passed_over, true_T, false_T, T_false, below_suc, below_or_not, and_intro, and_right, same_test}
@@ -15,8 +16,6 @@ use Rattle.grammar.specs.Table.{rules, rule_counts}
 use Rattle.order.specs.Computed.{has_cycle, circular, cycle_rule, cycle_occurrence}
 use Rattle.closing.specs.Rows.{leads}
 use Rattle.plans.specs.Buffers.{over, rows_of}
-use Rattle.inducing.specs.declared.Cycle.{Cycle}
-use Rattle.inducing.specs.declared.Cycle.TheVariants.{At, Nothing}
 use Rattle.inducing.specs.Cycles.{lies, cyclic, cycle_in}
 use Rattle.inducing.proofs.RowLaws.{over_leads}
 
@@ -58,16 +57,16 @@ module _ (rows : List ℕ) where
       }
 
   -- nothing is found
-  pub search_none : (n r : ℕ) (found : Cycle) → RulesBefore rows r → n ≤ r → found ≡ Nothing → found ≡ cycle_in rows n
+  pub search_none : (n r : ℕ) (found : Option (ℕ × ℕ)) → RulesBefore rows r → n ≤ r → found ≡ None → found ≡ cycle_in rows n
   unfolding cycle_in
   search_none n r found w h e =
       e
-      ∙ sym (passed_over (some n (λ q. cyclic rows q)) (At (least n (λ q. cyclic rows q)) (least 64 (λ o. lies rows (least n (λ q. cyclic rows q)) o))) Nothing
+      ∙ sym (passed_over (some n (λ q. cyclic rows q)) (Some (least n (λ q. cyclic rows q), least 64 (λ o. lies rows (least n (λ q. cyclic rows q)) o))) None
       (not_T (some n (λ q. cyclic rows q)) (λ t. let k = some_find n (λ q. cyclic rows q) t in w.none k.0 (omega (arith, k.1)) k.2)))
 
   -- the first is found
   pub search_found : (n r o : ℕ) (b : Bool) → RulesBefore rows r → r < n → NoneBefore rows r o → o < 64 → b ≡ hasb o (get_or rows (64 * r + o) 0)
-      → b ≡ true → At r o ≡ cycle_in rows n
+      → b ≡ true → Some (r, o) ≡ cycle_in rows n
   unfolding cycle_in cyclic
   search_found n r o b w h v l e f =
       let here : T (lies rows r o) = true_T _ (sym (lies_is r o b e) ∙ f) in
@@ -78,9 +77,9 @@ module _ (rows : List ℕ) where
       let eo : o ≡ least 64 (λ p. lies rows r p) =
       least_one 64 (λ p. lies rows r p) o (least 64 (λ p. lies rows r p))
       (record { inside = omega arith; passes = λ _. here; lowest = v.none }) (least_is 64 (λ p. lies rows r p)) in
-      ap (λ (x : ℕ). At r x) eo
-      ∙ (ap (λ (q : ℕ). At q (least 64 (λ p. lies rows q p))) er
-      ∙ sym (chosen (some n (λ q. cyclic rows q)) (At (least n (λ q. cyclic rows q)) (least 64 (λ o. lies rows (least n (λ q. cyclic rows q)) o))) Nothing (some_at n (λ q. cyclic rows q) r h there)))
+      ap (λ (x : ℕ). Some (r, x)) eo
+      ∙ (ap (λ (q : ℕ). Some (q, (least 64 (λ p. lies rows q p)))) er
+      ∙ sym (chosen (some n (λ q. cyclic rows q)) (Some (least n (λ q. cyclic rows q), least 64 (λ o. lies rows (least n (λ q. cyclic rows q)) o))) None (some_at n (λ q. cyclic rows q) r h there)))
 
 -- the least and some of tests that agree below n
 least_same : (n : ℕ) (f h : ℕ → Bool) → ((k : ℕ) → k < n → f k ≡ h k) → least n f ≡ least n h
@@ -99,6 +98,9 @@ some_same n f h e =
     (λ t. let k = some_find n f t in some_at n h k.0 k.1 (subst (λ (b : Bool). T b) (e k.0 k.1) k.2))
     (λ t. let k = some_find n h t in some_at n f k.0 k.1 (subst⁻¹ (λ (b : Bool). T b) (e k.0 k.1) k.2))
 
+some_is_some : (p : ℕ × ℕ) → Some p ≡ None → ⊥
+some_is_some p e = let z : ◌≡◌ {A = ℕ} 0 1 = ap (λ (o : Option (ℕ × ℕ)). elim o as (λ _. ℕ) [ Some _ ↦ 0 | None ↦ 1 ]) e in omega arith
+
 module _ (g : List ℕ) (paths : ℕ → ℕ → ℕ → Bool) (lent rows : List ℕ) (is : rows ≡ over (rows_of g paths) lent) where
   lies_paths : (r o : ℕ) → r < rules g → o < 64 → lies rows r o ≡ paths r o o
   unfolding lies
@@ -111,22 +113,22 @@ module _ (g : List ℕ) (paths : ℕ → ℕ → ℕ → Bool) (lent rows : List
       ∙ same_test _ _ (λ t. and_intro (rule_counts g r) _ (lt→ltb r (rules g) h) t) (λ t. and_right (rule_counts g r) _ t)
 
   -- the search over the rows of a grammar is the search that planning is defined by
-  cycle_is : cycle_in rows (rules g) ≡ cond (circular g paths) (At (cycle_rule g paths) (cycle_occurrence g paths)) Nothing
+  cycle_is : cycle_in rows (rules g) ≡ cond {A = Option (ℕ × ℕ)} (circular g paths) (Some (cycle_rule g paths, cycle_occurrence g paths)) None
   unfolding cycle_in circular cycle_rule cycle_occurrence
   cycle_is =
       let er : least (rules g) (λ r. cyclic rows r) ≡ cycle_rule g paths =
       least_same (rules g) (λ r. cyclic rows r) (λ r. has_cycle g paths r) cyclic_has in
       let es : some (rules g) (λ r. cyclic rows r) ≡ circular g paths =
       some_same (rules g) (λ r. cyclic rows r) (λ r. has_cycle g paths r) cyclic_has in
-      ap (λ (b : Bool). cond b (At (least (rules g) (λ r. cyclic rows r)) (least 64 (λ o. lies rows (least (rules g) (λ r. cyclic rows r)) o))) Nothing) es
-      ∙ (ap (λ (q : ℕ). cond (circular g paths) (At q (least 64 (λ o. lies rows q o))) Nothing) er
+      ap (λ (b : Bool). cond {A = Option (ℕ × ℕ)} b (Some (least (rules g) (λ r. cyclic rows r), least 64 (λ o. lies rows (least (rules g) (λ r. cyclic rows r)) o))) None) es
+      ∙ (ap (λ (q : ℕ). cond {A = Option (ℕ × ℕ)} (circular g paths) (Some (q, least 64 (λ o. lies rows q o))) None) er
       ∙ go (circular g paths) refl)
     where
       go : (b : Bool) → circular g paths ≡ b
-          → cond b (At (cycle_rule g paths) (least 64 (λ o. lies rows (cycle_rule g paths) o))) Nothing
-          ≡ cond b (At (cycle_rule g paths) (cycle_occurrence g paths)) Nothing
+          → cond {A = Option (ℕ × ℕ)} b (Some (cycle_rule g paths, least 64 (λ o. lies rows (cycle_rule g paths) o))) None
+          ≡ cond {A = Option (ℕ × ℕ)} b (Some (cycle_rule g paths, cycle_occurrence g paths)) None
       go true e =
-          ap (λ (o : ℕ). At (cycle_rule g paths) o)
+          ap (λ (o : ℕ). Some (cycle_rule g paths, o))
           (least_same 64 (λ o. lies rows (cycle_rule g paths) o) (λ o. paths (cycle_rule g paths) o o)
           (λ o l. lies_paths (cycle_rule g paths) o
           (let k = some_find (rules g) (λ r. has_cycle g paths r) (true_T _ e) in
@@ -135,25 +137,28 @@ module _ (g : List ℕ) (paths : ℕ → ℕ → ℕ → Bool) (lent rows : List
       go false e = refl
 
   -- what the search answers, for each of its two answers
-  pub cycle_found : (r o : ℕ) → cycle_in rows (rules g) ≡ At r o
+  pub cycle_found : (r o : ℕ) → cycle_in rows (rules g) ≡ Some (r, o)
       → (circular g paths ≡ true) × (r ≡ cycle_rule g paths) × (o ≡ cycle_occurrence g paths)
   cycle_found r o e = go (circular g paths) refl
     where
       go : (b : Bool) → circular g paths ≡ b → (circular g paths ≡ true) × (r ≡ cycle_rule g paths) × (o ≡ cycle_occurrence g paths)
       go true f =
-          let q : At r o ≡ At (cycle_rule g paths) (cycle_occurrence g paths) =
-          sym e ∙ (cycle_is ∙ ap (λ (b : Bool). cond b (At (cycle_rule g paths) (cycle_occurrence g paths)) Nothing) f) in
-          (f, (cc), (cc))
+          let q : ◌≡◌ {A = Option (ℕ × ℕ)} (Some (r, o)) (Some (cycle_rule g paths, cycle_occurrence g paths)) =
+          sym e ∙ (cycle_is ∙ ap (λ (b : Bool). cond {A = Option (ℕ × ℕ)} b (Some (cycle_rule g paths, cycle_occurrence g paths)) None) f) in (
+            f,
+            ap (λ (c : Option (ℕ × ℕ)). elim c as (λ _. ℕ) [ Some p ↦ p.0 | None ↦ r ]) q,
+            ap (λ (c : Option (ℕ × ℕ)). elim c as (λ _. ℕ) [ Some p ↦ p.1 | None ↦ o ]) q,
+          )
       go false f =
-          let q : At r o ≡ Nothing = sym e ∙ (cycle_is ∙ ap (λ (b : Bool). cond b (At (cycle_rule g paths) (cycle_occurrence g paths)) Nothing) f) in
-          absurd (let z : ◌≡◌ {A = ℕ} 0 1 = cc in omega arith)
+          let q : Some (r, o) ≡ None = sym e ∙ (cycle_is ∙ ap (λ (b : Bool). cond {A = Option (ℕ × ℕ)} b (Some (cycle_rule g paths, cycle_occurrence g paths)) None) f) in
+          absurd (some_is_some (r, o) q)
 
-  pub cycle_nothing : cycle_in rows (rules g) ≡ Nothing → circular g paths ≡ false
+  pub cycle_nothing : cycle_in rows (rules g) ≡ None → circular g paths ≡ false
   cycle_nothing e = go (circular g paths) refl
     where
       go : (b : Bool) → circular g paths ≡ b → circular g paths ≡ false
       go false f = f
       go true f =
-          let q : Nothing ≡ At (cycle_rule g paths) (cycle_occurrence g paths) =
-          sym e ∙ (cycle_is ∙ ap (λ (b : Bool). cond b (At (cycle_rule g paths) (cycle_occurrence g paths)) Nothing) f) in
-          absurd (let z : ◌≡◌ {A = ℕ} 0 1 = cc in omega arith)
+          let q : None ≡ Some (cycle_rule g paths, cycle_occurrence g paths) =
+          sym e ∙ (cycle_is ∙ ap (λ (b : Bool). cond {A = Option (ℕ × ℕ)} b (Some (cycle_rule g paths, cycle_occurrence g paths)) None) f) in
+          absurd (some_is_some (cycle_rule g paths, cycle_occurrence g paths) (sym q))

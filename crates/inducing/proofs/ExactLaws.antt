@@ -14,7 +14,7 @@ use Rattle.bits.proofs.MemberLaws.{none_left, small_set}
 use Rattle.basics.specs.Lists.{word, padded}
 use Rattle.basics.proofs.TestLaws.{or_cases, and_intro, and_left, and_right, below_or_not}
 use Rattle.basics.proofs.ListLaws.{length_padded, get_d_past}
-use Rattle.grammar.specs.declared.Verdict.TheVariants.{Good}
+use Rattle.grammar.specs.Verdicts.{Good}
 use Rattle.grammar.specs.Table.{symbols, rules, attributes, symbol_of, position, attribute}
 use Rattle.grammar.specs.Reading.{read_table}
 use Rattle.grammar.specs.WellFormed.{WellFormed}

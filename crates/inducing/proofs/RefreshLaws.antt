@@ -12,7 +12,7 @@ use Rattle.bits.specs.Bit.{hasb}
 use Rattle.bits.proofs.MemberLaws.{hasb_below}
 use Rattle.basics.specs.Lists.{word}
 use Rattle.basics.proofs.TestLaws.{and_left, and_right, and_intro, below_suc}
-use Rattle.grammar.specs.declared.Verdict.TheVariants.{Good}
+use Rattle.grammar.specs.Verdicts.{Good}
 use Rattle.grammar.specs.Table.{rules, attributes, length_at, rule_at, right_length, symbol_of, position, attribute, occurrence}
 use Rattle.grammar.specs.Reading.{read_table}
 use Rattle.grammar.specs.WellFormed.{WellFormed}

@@ -10,7 +10,7 @@ use lib.ListN.{get_or}
 use Rattle.bits.specs.Bit.{hasb}
 use Rattle.bits.proofs.CollectLaws.{collect_lt}
 use Rattle.bits.proofs.MemberLaws.{hasb_collect, hasb_below}
-use Rattle.grammar.specs.declared.Verdict.TheVariants.{Good}
+use Rattle.grammar.specs.Verdicts.{Good}
 use Rattle.grammar.specs.Table.{
   rules,
   attributes,

@@ -18,7 +18,7 @@ use Rattle.basics.specs.Tests.{count}
 use Rattle.basics.specs.Lists.{word}
 use Rattle.basics.proofs.TestLaws.{true_T, same_or_not, below_or_not, count_more}
 use Rattle.basics.proofs.TestLaws as tests
-use Rattle.grammar.specs.declared.Verdict.TheVariants.{Good}
+use Rattle.grammar.specs.Verdicts.{Good}
 use Rattle.grammar.specs.Table.{rules}
 use Rattle.grammar.specs.Reading.{read_table}
 use Rattle.grammar.proofs.AcceptedTable.{accepted}

@@ -1,10 +1,8 @@
 -- Document 01, refusals 9 and 10: "the lowest-numbered rule, and in it the lowest occurrence, that lies on a cycle", read off the rows.
 -- Computed: no demand rests on it. Assumes nothing.
-use Rattle.std.specs.Prelude.{ℕ, ◌*◌, Bool, cond, List}
+use Rattle.std.specs.Prelude.{ℕ, ◌*◌, Bool, cond, List, Option, Some, None}
 use Rattle.basics.specs.Tests.{some, least}
 use Rattle.closing.specs.Rows.{leads}
-use Rattle.inducing.specs.declared.Cycle.{Cycle}
-use Rattle.inducing.specs.declared.Cycle.TheVariants.{At, Nothing}
 
 -- occurrence o of rule r lies on a cycle
 unfoldable pub lies : List ℕ → ℕ → ℕ → Bool
@@ -15,7 +13,7 @@ unfoldable pub cyclic : List ℕ → ℕ → Bool
 cyclic rows r = some 64 (λ o. lies rows r o)
 
 -- the lowest rule of the first n, and its lowest occurrence, that lies on a cycle
-unfoldable pub cycle_in : List ℕ → ℕ → Cycle
+unfoldable pub cycle_in : List ℕ → ℕ → Option (ℕ × ℕ)
 cycle_in rows n =
     let r = least n (λ r. cyclic rows r) in
-    cond (some n (λ r. cyclic rows r)) (At r (least 64 (λ o. lies rows r o))) Nothing
+    cond (some n (λ r. cyclic rows r)) (Some (r, least 64 (λ o. lies rows r o))) None

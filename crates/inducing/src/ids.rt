@@ -4,23 +4,22 @@
 ghost use Rattle.std.specs.Prelude.{◌≡◌, ℕ, ◌+◌, ◌*◌, ◌≤◌, ◌<◌, length};
 ghost use Rattle.bits.specs.Bit as sets;
 ghost use Rattle.basics.specs.Lists.{word};
-ghost use Rattle.grammar.specs.declared.Verdict.TheVariants as verdict;
-ghost use Rattle.grammar.specs.Reading.{read_table};
-ghost use Rattle.grammar.specs.Table as table;
-ghost use Rattle.access.specs.Offsets.{offsets_for, RuleOf};
+ghost use Rattle.grammar.specs.Table as tables;
 ghost use Rattle.inducing.specs.Rules as rules;
 ghost use Rattle.inducing.specs.Arcs as said;
 ghost use Rattle.inducing.specs.Stale as state;
 
-use grammar::{Offsets, ROWS};
+use access::Table;
+use grammar::ROWS;
 
 // Puts rule r to the rules that name each of its symbols.
-fn name_rule(words: &[u16], offsets: &Offsets, r: usize, naming: &mut [u64; 32])
-    requires rule_of { RuleOf words.now offsets.now r }
+fn name_rule(table: &Table<'_>, r: usize, naming: &mut [u64; 32])
+    requires inside { r < tables.rules table.now.words.now }
     requires naming_len { length naming.old ≡ 32 }
-    ensures { state.NamedAt words.now r (table.right_length words.now r + 1) naming.old naming.new }
+    ensures { state.NamedAt table.now.words.now r (tables.right_length table.now.words.now r + 1) naming.old naming.new }
 {
-    let p = access::rule_at(offsets, r);
+    let words = table.words;
+    let p = table.rule_at(r);
     let n = access::right_length(words, p);
     for i in 0..n + 1 {
         let x = access::symbol_of(words, p, i);
@@ -29,15 +28,13 @@ fn name_rule(words: &[u16], offsets: &Offsets, r: usize, naming: &mut [u64; 32])
 }
 
 // For each symbol the rules that name it.
-fn name_rules(words: &[u16], offsets: &Offsets) -> [u64; 32]
-    requires words_value { read_table words.now ≡ verdict.Good }
-    requires offsets_value { offsets.now ≡ offsets_for words.now verdict.Good }
-    ensures { state.Naming words.now (table.rules words.now) result }
+fn name_rules(table: &Table<'_>) -> [u64; 32]
+    ensures { state.Naming table.now.words.now (tables.rules table.now.words.now) result }
 {
-    let count = access::rules(words);
+    let count = access::rules(table.words);
     let mut naming = [0u64; 32];
     for r in 0..count {
-        name_rule(words, offsets, r, &mut naming);
+        name_rule(table, r, &mut naming);
     }
     naming
 }
@@ -67,7 +64,7 @@ fn gather_at(
 ) -> u64
     requires base_in_bounds { (base + 64 ≤ length rows.now) × (length ids.old ≡ 32) }
     requires ruled { said.Ruled words.now p }
-    requires i_bound { i ≤ table.length_at words.now p }
+    requires i_bound { i ≤ tables.length_at words.now p }
     ensures { state.AddedAt words.now p i rows.now base naming.now ids.old ids.new result }
 {
     let x = access::symbol_of(words, p, i);
@@ -86,7 +83,7 @@ fn gather(
 ) -> u64
     requires base_in_bounds { (base + 64 ≤ length rows.now) × (length ids.old ≡ 32) }
     requires ruled { said.Ruled words.now p }
-    ensures { state.Gathering words.now p rows.now base (table.length_at words.now p + 1) naming.now ids.old ids.new result }
+    ensures { state.Gathering words.now p rows.now base (tables.length_at words.now p + 1) naming.now ids.old ids.new result }
 {
     let n = access::right_length(words, p);
     let mut touched = 0;
@@ -99,19 +96,19 @@ fn gather(
 
 // Rule r gets DP and the arcs that its symbols have so far, and hands on those that its paths induce. The answer is the rules that are touched by it.
 fn open(
-    words: &[u16],
-    offsets: &Offsets,
+    table: &Table<'_>,
     r: usize,
     naming: &[u64; 32],
     rows: &mut [u64],
     ids: &mut [u64; 32],
 ) -> u64
-    requires rule_of { RuleOf words.now offsets.now r }
-    requires naming { state.Naming words.now (table.rules words.now) naming.now }
-    requires standing { rules.Standing words.now r rows.old ids.old }
-    ensures { state.Refreshed words.now naming.now (r + 1) r rows.old ids.old rows.new ids.new result }
+    requires inside { r < tables.rules table.now.words.now }
+    requires naming { state.Naming table.now.words.now (tables.rules table.now.words.now) naming.now }
+    requires standing { rules.Standing table.now.words.now r rows.old ids.old }
+    ensures { state.Refreshed table.now.words.now naming.now (r + 1) r rows.old ids.old rows.new ids.new result }
 {
-    let p = access::rule_at(offsets, r);
+    let words = table.words;
+    let p = table.rule_at(r);
     let among = access::occurrence_set(words, p);
     super::open(words, p, rows, ROWS * r, among, ids);
     gather(words, p, rows, ROWS * r, naming, ids)
@@ -119,19 +116,19 @@ fn open(
 
 // The same for a rule that has DP and is taken up again.
 fn refresh(
-    words: &[u16],
-    offsets: &Offsets,
+    table: &Table<'_>,
     r: usize,
     naming: &[u64; 32],
     rows: &mut [u64],
     ids: &mut [u64; 32],
 ) -> u64
-    requires rule_of { RuleOf words.now offsets.now r }
-    requires naming { state.Naming words.now (table.rules words.now) naming.now }
-    requires standing { rules.Standing words.now (table.rules words.now) rows.old ids.old }
-    ensures { state.Refreshed words.now naming.now (table.rules words.now) r rows.old ids.old rows.new ids.new result }
+    requires inside { r < tables.rules table.now.words.now }
+    requires naming { state.Naming table.now.words.now (tables.rules table.now.words.now) naming.now }
+    requires standing { rules.Standing table.now.words.now (tables.rules table.now.words.now) rows.old ids.old }
+    ensures { state.Refreshed table.now.words.now naming.now (tables.rules table.now.words.now) r rows.old ids.old rows.new ids.new result }
 {
-    let p = access::rule_at(offsets, r);
+    let words = table.words;
+    let p = table.rule_at(r);
     let among = access::occurrence_set(words, p);
     super::spread(words, p, rows, ROWS * r, among, ids);
     gather(words, p, rows, ROWS * r, naming, ids)
@@ -160,23 +157,15 @@ fn still_stale(stale: u64, r: usize, touched: u64) -> u64
 }
 
 // Step 1, and the first turn of step 2 for each rule. The answer is the rules that are stale then.
-fn open_rules(
-    words: &[u16],
-    offsets: &Offsets,
-    naming: &[u64; 32],
-    rows: &mut [u64],
-    ids: &mut [u64; 32],
-) -> u64
-    requires words_value { read_table words.now ≡ verdict.Good }
-    requires offsets_value { offsets.now ≡ offsets_for words.now verdict.Good }
-    requires naming { state.Naming words.now (table.rules words.now) naming.now }
-    requires standing { rules.Standing words.now 0 rows.old ids.old }
-    ensures { state.Stale words.now rows.old (table.rules words.now) result rows.new ids.new }
+fn open_rules(table: &Table<'_>, naming: &[u64; 32], rows: &mut [u64], ids: &mut [u64; 32]) -> u64
+    requires naming { state.Naming table.now.words.now (tables.rules table.now.words.now) naming.now }
+    requires standing { rules.Standing table.now.words.now 0 rows.old ids.old }
+    ensures { state.Stale table.now.words.now rows.old (tables.rules table.now.words.now) result rows.new ids.new }
 {
-    let count = access::rules(words);
+    let count = access::rules(table.words);
     let mut stale = 0;
     for r in 0..count {
-        let touched = open(words, offsets, r, naming, rows, ids);
+        let touched = open(table, r, naming, rows, ids);
         stale = still_stale(stale, r, touched);
     }
     stale
@@ -184,41 +173,30 @@ fn open_rules(
 
 // The rest of step 2: as long as a rule is stale it is taken up, and the rules that it touches are stale from then on. No arc is taken back, so this
 // ends.
-fn settle(
-    words: &[u16],
-    offsets: &Offsets,
-    naming: &[u64; 32],
-    rows: &mut [u64],
-    ids: &mut [u64; 32],
-    opened: u64,
-)
-    requires words_value { read_table words.now ≡ verdict.Good }
-    requires offsets_value { offsets.now ≡ offsets_for words.now verdict.Good }
-    requires naming { state.Naming words.now (table.rules words.now) naming.now }
-    requires stale { state.Stale words.now rows.old (table.rules words.now) opened rows.old ids.old }
-    ensures { state.Stale words.now rows.old (table.rules words.now) 0 rows.new ids.new }
+fn settle(table: &Table<'_>, naming: &[u64; 32], rows: &mut [u64], ids: &mut [u64; 32], opened: u64)
+    requires naming { state.Naming table.now.words.now (tables.rules table.now.words.now) naming.now }
+    requires stale { state.Stale table.now.words.now rows.old (tables.rules table.now.words.now) opened rows.old ids.old }
+    ensures { state.Stale table.now.words.now rows.old (tables.rules table.now.words.now) 0 rows.new ids.new }
 {
     let mut stale = opened;
     let mut from = 0;
     while stale != 0 {
         let r = choose(stale, from);
-        let touched = refresh(words, offsets, r, naming, rows, ids);
+        let touched = refresh(table, r, naming, rows, ids);
         stale = still_stale(stale, r, touched);
         from = r + 1;
     }
 }
 
 // Steps 1 and 2 for rows that are empty. The answer is the arcs of every symbol.
-pub fn induced(words: &[u16], offsets: &Offsets, rows: &mut [u64]) -> [u64; 32]
-    requires words_value { read_table words.now ≡ verdict.Good }
-    requires offsets_value { offsets.now ≡ offsets_for words.now verdict.Good }
-    requires words_in_bounds { 64 * table.rules words.now ≤ length rows.old }
-    requires by_index { (j : ℕ) → j < 64 * table.rules words.now → word rows.old j ≡ 0 }
-    ensures { state.Stale words.now rows.old (table.rules words.now) 0 rows.new result }
+pub fn induced(table: &Table<'_>, rows: &mut [u64]) -> [u64; 32]
+    requires words_in_bounds { 64 * tables.rules table.now.words.now ≤ length rows.old }
+    requires by_index { (j : ℕ) → j < 64 * tables.rules table.now.words.now → word rows.old j ≡ 0 }
+    ensures { state.Stale table.now.words.now rows.old (tables.rules table.now.words.now) 0 rows.new result }
 {
-    let naming = name_rules(words, offsets);
+    let naming = name_rules(table);
     let mut ids = [0u64; 32];
-    let stale = open_rules(words, offsets, &naming, rows, &mut ids);
-    settle(words, offsets, &naming, rows, &mut ids, stale);
+    let stale = open_rules(table, &naming, rows, &mut ids);
+    settle(table, &naming, rows, &mut ids, stale);
     ids
 }

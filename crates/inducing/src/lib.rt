@@ -11,36 +11,27 @@ ghost use Rattle.inducing.specs.Cycles.{cycle_in};
 ghost use Rattle.inducing.specs.Closes.{Grown, Closes, Joined, ArcAt, ArcOut};
 ghost use Rattle.bits.specs.Bit as sets;
 ghost use Rattle.basics.specs.Lists.{word, padded};
-ghost use Rattle.grammar.specs.declared.Verdict.TheVariants as verdict;
-ghost use Rattle.grammar.specs.Reading.{read_table};
-ghost use Rattle.grammar.specs.Table as table;
+ghost use Rattle.grammar.specs.Table as tables;
 ghost use Rattle.access.specs.ByPlace.{symbol_from};
-ghost use Rattle.access.specs.Offsets.{offsets_for};
 ghost use Rattle.grammar.specs.Limits.{row_words};
 ghost use Rattle.relations.specs.Computed.{ids_of};
 ghost use Rattle.plans.specs.Buffers.{over, rows_of};
 ghost use Rattle.plans.specs.Answer.{idp_paths};
 ghost use Rattle.inducing.specs.Arcs as said;
 
-use grammar::{Offsets, ROWS};
-
-// Where a cycle lies: the rule and the occurrence.
-#[derive(Clone, Copy)]
-pub enum Cycle {
-    At(usize, usize),
-    Nothing,
-}
+use access::Table;
+use grammar::ROWS;
 
 // The lowest-numbered rule, and in it the lowest occurrence, that lies on a cycle.
-pub fn find_cycle(rows: &[u64], rules: usize) -> Cycle
+pub fn find_cycle(rows: &[u64], rules: usize) -> Option<(usize, usize)>
     requires { (rules ≤ 64) × (64 * rules ≤ length rows.now) }
     ensures { result ≡ cycle_in rows.now rules }
 {
-    let mut found = Cycle::Nothing;
+    let mut found = None;
     'search: for r in 0..rules {
         for o in 0..ROWS {
             if bits::has(rows[ROWS * r + o], o) {
-                found = Cycle::At(r, o);
+                found = Some((r, o));
                 break 'search;
             }
         }
@@ -97,7 +88,7 @@ fn join_symbol(
     arcs: &[u64; 32],
     starts: u64,
 ) -> u64
-    requires base_in_bounds { (base + 64 ≤ length rows.old) × (i ≤ table.length_at words.now p) }
+    requires base_in_bounds { (base + 64 ≤ length rows.old) × (i ≤ tables.length_at words.now p) }
     requires ruled { said.Ruled words.now p }
     ensures { Joined rows.old starts base (ArcAt i (word arcs.now (symbol_from words.now p i))) rows.new result }
 {
@@ -109,7 +100,7 @@ fn join_symbol(
 fn join_symbols(words: &[u16], p: usize, rows: &mut [u64], base: usize, arcs: &[u64; 32]) -> u64
     requires base_in_bounds { base + 64 ≤ length rows.old }
     requires ruled { said.Ruled words.now p }
-    ensures { Joined rows.old 0 base (said.SpreadArc words.now p arcs.now (table.length_at words.now p + 1)) rows.new result }
+    ensures { Joined rows.old 0 base (said.SpreadArc words.now p arcs.now (tables.length_at words.now p + 1)) rows.new result }
 {
     let n = access::right_length(words, p);
     let mut starts = 0;
@@ -125,7 +116,7 @@ pub fn spread(words: &[u16], p: usize, rows: &mut [u64], base: usize, among: u64
     requires ruled { said.Ruled words.now p }
     requires arcs_fit { said.ArcsFit words.now p among arcs.now }
     requires kept { Kept rows.old base among }
-    ensures { Closes rows.old base among (said.SpreadArc words.now p arcs.now (table.length_at words.now p + 1)) rows.new }
+    ensures { Closes rows.old base among (said.SpreadArc words.now p arcs.now (tables.length_at words.now p + 1)) rows.new }
 {
     let starts = join_symbols(words, p, rows, base, arcs);
     closing::close(rows, base, among, starts);
@@ -157,13 +148,11 @@ fn open(words: &[u16], p: usize, rows: &mut [u64], base: usize, among: u64, arcs
 }
 
 // Steps 1 and 2: the rows get the paths of IDP, and the answer is IDS of every symbol.
-pub fn induce(words: &[u16], offsets: &Offsets, rows: &mut [u64]) -> [u64; 32]
-    requires words_value { read_table words.now ≡ verdict.Good }
-    requires offsets_value { offsets.now ≡ offsets_for words.now verdict.Good }
-    requires words_in_bounds { row_words (table.rules words.now) ≤ length rows.old }
-    ensures value { result ≡ padded 32 (ids_of words.now) }
-    ensures rows_after { rows.new ≡ over (rows_of words.now (idp_paths words.now (ids_of words.now))) rows.old }
+pub fn induce(table: &Table<'_>, rows: &mut [u64]) -> [u64; 32]
+    requires words_in_bounds { row_words (tables.rules table.now.words.now) ≤ length rows.old }
+    ensures value { result ≡ padded 32 (ids_of table.now.words.now) }
+    ensures rows_after { rows.new ≡ over (rows_of table.now.words.now (idp_paths table.now.words.now (ids_of table.now.words.now))) rows.old }
 {
-    dp::clear(rows, ROWS * access::rules(words));
-    ids::induced(words, offsets, rows)
+    dp::clear(rows, ROWS * access::rules(table.words));
+    ids::induced(table, rows)
 }

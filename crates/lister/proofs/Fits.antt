@@ -16,7 +16,7 @@ use Rattle.basics.proofs.ListLaws.{length_tabulate, get_d_tabulate}
 use Rattle.refusals.specs.declared.Refusal.{Refusal}
 use Rattle.refusals.specs.declared.Refusal.TheVariants.{EndsEarly}
 use Rattle.refusals.specs.Numbers.{number_of, place_of, second_of}
-use Rattle.grammar.specs.declared.Verdict.TheVariants.{Good}
+use Rattle.grammar.specs.Verdicts.{Good}
 use Rattle.grammar.specs.Table.{symbols, rules, nonterminal, attributes}
 use Rattle.grammar.specs.Reading.{read_table}
 use Rattle.grammar.specs.WellFormed.{WellFormed}

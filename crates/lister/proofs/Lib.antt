@@ -1,4 +1,5 @@
 pub mod ShownLaws
+pub mod PageLaws
 pub mod LineLaws
 pub mod PlanLaws
 pub mod TableLaws

@@ -9,6 +9,7 @@ use Rattle.sets.specs.Visits.{set_number, visits}
 use Rattle.plans.specs.Buffers.{over}
 use Rattle.plans.specs.Sequences.{sequence_length, action_at}
 use Rattle.text.specs.Lines.{line, rule_word}
+use Rattle.lister.specs.declared.Page.{Page}
 use Rattle.text.specs.Listing.{first_line, symbol_line}
 
 -- No listing is longer, and the program lends so many bytes.
@@ -27,6 +28,11 @@ pub record Shows (lent text out : List ℕ) (at : ℕ) : Type 0 where
 pub record Adds (out : List ℕ) (at : ℕ) (new out' : List ℕ) (at' : ℕ) : Type 0 where
   pub kept : length out' ≡ length out
   pub goes_on : (lent text : List ℕ) → Shows lent text out at → Shows lent (text ++ new) out' at'
+
+-- A page's text goes on with the new bytes, in the same buffer.
+pub record Types (page : Page) (new : List ℕ) (page' : Page) : Type 0 where
+  pub same_buffer : page.out.ghost_name ≡ page'.out.ghost_name
+  pub adds : Adds page.out.now page.at new page'.out.now page'.at
 
 -- the three numbers of a refusal
 abbrev pub refusal_numbers : Refusal → List ℕ

@@ -9,7 +9,7 @@ use lib.Dec.{T, ltb, ltb→lt, lt→ltb, eqb→eq}
 use Rattle.basics.specs.Tests.{◌or◌}
 use Rattle.basics.proofs.TestLaws.{and_intro, and_left, and_right, or_left, or_right, or_cases, eq_T}
 use Rattle.grammar.specs.Limits.{most_attributes}
-use Rattle.grammar.specs.declared.Verdict.TheVariants.{Good}
+use Rattle.grammar.specs.Verdicts.{Good}
 use Rattle.grammar.specs.Table.{symbols, kind, attributes, symbol_of, occurrence, position, attribute, rule_counts}
 use Rattle.grammar.specs.Reading.{read_table}
 use Rattle.grammar.specs.WellFormed.{WellFormed}

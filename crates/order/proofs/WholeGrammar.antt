@@ -9,7 +9,7 @@ use lib.Dec.{ltb→lt, lt→ltb}
 use Rattle.basics.specs.Lists.{word}
 use Rattle.basics.proofs.TestLaws.{same_or_not}
 use Rattle.grammar.specs.Limits.{most_symbols, most_attributes}
-use Rattle.grammar.specs.declared.Verdict.TheVariants.{Good}
+use Rattle.grammar.specs.Verdicts.{Good}
 use Rattle.grammar.specs.Table.{symbols, kind, attributes}
 use Rattle.grammar.specs.Reading.{read_table}
 use Rattle.grammar.specs.WellFormed.{WellFormed}

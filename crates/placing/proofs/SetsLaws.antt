@@ -16,7 +16,7 @@ use Rattle.basics.specs.Tests.{◌and◌}
 use Rattle.basics.specs.Lists.{word}
 use Rattle.basics.proofs.TestLaws.{and_intro, and_right, chosen, passed_over, tested, true_T, false_T, below_or_not}
 use Rattle.grammar.specs.Limits.{most_attributes}
-use Rattle.grammar.specs.declared.Verdict.TheVariants.{Good}
+use Rattle.grammar.specs.Verdicts.{Good}
 use Rattle.grammar.specs.Table.{symbols, nonterminal, attributes, mask, symbol_counts}
 use Rattle.grammar.specs.Reading.{read_table}
 use Rattle.grammar.specs.WellFormed.{WellFormed, SymbolFormed}

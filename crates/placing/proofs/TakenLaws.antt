@@ -131,14 +131,15 @@ pub numbering_place : (entry : List ℕ) (at taken k : ℕ) (sets : List ℕ) (l
 numbering_place entry at taken k sets left a w f =
     omega (arith, w.room, w.size, hasb_below 8 a left w.small (true_T _ (bit_has a left f.member)))
 
-pub numbering_start : (sets : List ℕ) (at taken k : ℕ) → at + 8 ≤ length sets → taken < 256 → Numbering sets at taken k sets taken
-numbering_start sets at taken k h l =
-    record {
+pub numbering_start : (sets : List ℕ) (at taken k left : ℕ) → at + 8 ≤ length sets → taken < 256 → left ≡ taken → Numbering sets at taken k sets left
+numbering_start sets at taken k left h l e =
+    subst⁻¹ (λ (x : ℕ). Numbering sets at taken k sets x) e
+    (record {
       small = l;
       room = h;
       size = refl;
       rewriting = rewriting_start sets at taken (λ a. k) (λ o t. omega (arith, hasb_below 8 o taken l t));
-    }
+    })
 
 pub numbering_turn : (entry : List ℕ) (at taken k : ℕ) (sets : List ℕ) (left a next : ℕ) → Numbering entry at taken k sets left → First left a
     → next ≡ remove a left → Numbering entry at taken k (set sets (at + a) k) next

@@ -2,13 +2,12 @@
 #![tactic(auto)]
 
 ghost use Rattle.std.specs.Prelude.{◌≡◌, ◌+◌, ◌*◌, ◌≤◌, ◌<◌, length};
-ghost use Rattle.grammar.specs.declared.Verdict.TheVariants.{Good};
 ghost use Rattle.grammar.specs.Limits as limits;
-ghost use Rattle.grammar.specs.Reading.{read_table};
 ghost use Rattle.grammar.specs.WellFormed.{SymbolFormed};
 ghost use Rattle.sets.specs.Computed.{sets_of};
 ghost use Rattle.placing.specs.SymbolSets as masks;
 
+use access::Table;
 use grammar::SET_WORDS;
 
 // All unplaced successors of attribute a are of the class.
@@ -24,11 +23,8 @@ fn taken_from(arcs: u64, unplaced: u64, class: u64) -> u64
     requires { unplaced < 256 }
     ensures { result ≡ masks.taken_from arcs unplaced class }
 {
-    let mut left = bits::common(unplaced, class);
     let mut taken = 0;
-    while left != 0 {
-        let a = bits::first(left);
-        left = bits::without(left, a);
+    for a in bits::members(bits::common(unplaced, class)) {
         taken = bits::put(taken, a, stays(arcs, unplaced, class, a));
     }
     taken
@@ -39,10 +35,7 @@ fn number_set(sets: &mut [u16], at: usize, taken: u64, k: u16)
     requires { (at + 8 ≤ length sets.old) × (taken < 256) }
     ensures { sets.new ≡ masks.numbered sets.old at taken k }
 {
-    let mut left = taken;
-    while left != 0 {
-        let a = bits::first(left);
-        left = bits::without(left, a);
+    for a in bits::members(taken) {
         sets[at + a] = k;
     }
 }
@@ -57,7 +50,9 @@ fn class_of(every: u64, inherited: u64, k: u16) -> u64
     inherited
 }
 
-// The nine sets of one symbol, whose words stand from `at` on.
+// The nine sets of one symbol, whose words stand from `at` on. Never put inline: woven into the code of a whole planning, the walks over members would
+// slow by a tenth the closing that comes before them there.
+#[inline(never)]
 fn place_symbol(sets: &mut [u16], at: usize, every: u64, inherited: u64, arcs: u64)
     requires { (at + 8 ≤ length sets.old) × (every < 256) }
     ensures { sets.new ≡ masks.numbered_to sets.old at every inherited arcs 9 }
@@ -96,13 +91,12 @@ fn place_nonterminal(words: &[u16], x: usize, arcs: u64, sets: &mut [u16])
 }
 
 // The set words of a plan, of a table that is accepted and its IDS.
-pub fn sets_of(words: &[u16], ids: &[u64; 32]) -> [u16; SET_WORDS]
-    requires { read_table words.now ≡ Good }
-    ensures { result ≡ sets_of words.now ids.now }
+pub fn sets_of(table: &Table<'_>, ids: &[u64; 32]) -> [u16; SET_WORDS]
+    ensures { result ≡ sets_of table.now.words.now ids.now }
 {
+    let words = table.words;
     let mut sets = [0u16; SET_WORDS];
-    let symbols = access::symbols(words);
-    for x in 0..symbols {
+    for x in 0..access::symbols(words) {
         place_nonterminal(words, x, ids[x], &mut sets);
     }
     sets

@@ -7,7 +7,7 @@ use native.Mathlib.Omega.{arith}
 use lib.Dec.{leb, leb→le}
 use borrow.Author.Tests.{le-leb, lt-leb}
 use Rattle.refusals.specs.declared.Refusal.TheVariants.{TooShort}
-use Rattle.grammar.specs.declared.Verdict.TheVariants.{Good, Refused}
+use Rattle.grammar.specs.Verdicts.{Good, Refused}
 use Rattle.grammar.specs.Limits.{row_words, plan_words}
 use Rattle.grammar.specs.Table.{rules}
 use Rattle.grammar.proofs.VerdictLaws.{then_first, then_second, unless_passes}

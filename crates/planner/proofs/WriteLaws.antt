@@ -12,6 +12,8 @@ use Rattle.basics.specs.Lists.{word, blocks}
 use Rattle.basics.proofs.ListLaws.{length_blocks, length_padded}
 use Rattle.grammar.specs.Limits.{most_symbols, most_rules, most_occurrences, rule_words, plan_words}
 use Rattle.grammar.specs.Table.{symbols, rules}
+use Rattle.grammar.specs.Verdicts.{Good}
+use Rattle.grammar.specs.Reading.{read_table}
 use Rattle.grammar.proofs.AcceptedTable.{accepted}
 use Rattle.relations.specs.Computed.{ids_of}
 use Rattle.sets.specs.Computed.{sets_of}
@@ -23,8 +25,10 @@ use Rattle.sequences.proofs.PlannedSequences.{planned_short}
 use Rattle.plans.specs.Buffers.{over, sequence_words, plan_of}
 use Rattle.plans.specs.Answer.{edp_paths, sequences_of, accepted_plan}
 use Rattle.plans.proofs.Answers.{no_idp_cycle_law, no_edp_cycle_law}
+use Rattle.access.specs.Offsets.{offsets_for}
 use Rattle.access.proofs.Accessors.{offset_is}
 use Rattle.plans.proofs.RowWords.{over_size, over_row}
+use Rattle.remaining.specs.declared.ByVisit.{ByVisit as Kept}
 use Rattle.remaining.specs.RuleSets.{FewVisits, ByVisit}
 use Rattle.sequencing.specs.Given.{RuleGiven as Given, set_words, with_block as written}
 use Rattle.planner.specs.Stages.{OrderedStage, sets}
@@ -74,75 +78,75 @@ unfolding accepted_plan plan_of
 accepted_length g = done_length g (rules g)
 
 -- the set words and the first r sequences are written
-pub record PlanTo (g offsets s rows entry plan : List ℕ) (r : ℕ) : Type 0 where
-  pub ready : OrderedStage g offsets s rows (length entry)
+pub record PlanTo (g s rows entry plan : List ℕ) (r : ℕ) : Type 0 where
+  pub ready : OrderedStage g s rows (length entry)
   pub inside : r ≤ rules g
   pub words : plan ≡ over (sets g ++ sequences g r) entry
 
-pub plan_start : (g offsets s rows lent entry : List ℕ) → OrderedStage g offsets s rows (length lent) → entry ≡ written lent 0 s
-    → PlanTo g offsets s rows entry entry 0
+pub plan_start : (g s rows lent entry : List ℕ) → OrderedStage g s rows (length lent) → entry ≡ written lent 0 s
+    → PlanTo g s rows entry entry 0
 unfolding blocks
-plan_start g offsets s rows lent entry w e =
+plan_start g s rows lent entry w e =
     let q : entry ≡ over (sets g) lent = e ∙ (first_written s lent ∙ ap (λ (x : List ℕ). over x lent) w.sets_are) in
     record {
-      ready = subst⁻¹ (OrderedStage g offsets s rows) (ap length q ∙ over_size (sets g) lent (omega (arith, length_sets g (ids_of g), w.plan_room))) w;
+      ready = subst⁻¹ (OrderedStage g s rows) (ap length q ∙ over_size (sets g) lent (omega (arith, length_sets g (ids_of g), w.plan_room))) w;
       inside = omega arith;
       words =
           q ∙ (sym (over_over (sets g) (sets g) lent (omega arith))
           ∙ (ap (over (sets g)) (sym q) ∙ ap (λ (x : List ℕ). over x entry) (sym (mathlib.Core.List.append-nil (sets g)))));
     }
 
-pub write_room : (g offsets s rows : List ℕ) (n : ℕ) → OrderedStage g offsets s rows n → 0 + length s ≤ n
-write_room g offsets s rows n w = omega (arith, ap length w.sets_are, length_sets g (ids_of g), w.plan_room)
+pub write_room : (g s rows : List ℕ) (n : ℕ) → OrderedStage g s rows n → 0 + length s ≤ n
+write_room g s rows n w = omega (arith, ap length w.sets_are, length_sets g (ids_of g), w.plan_room)
 
-pub plan_rule : (g offsets s rows entry plan : List ℕ) (r n : ℕ) → PlanTo g offsets s rows entry plan r → n ≡ rules g → r < n → r < most_rules
-plan_rule g offsets s rows entry plan r n w m h = omega (arith, (accepted g w.ready.good).rules_fit)
+pub plan_rule : (g s rows entry plan : List ℕ) (r n : ℕ) → read_table g ≡ Good → PlanTo g s rows entry plan r → n ≡ rules g → r < n → r < most_rules
+plan_rule g s rows entry plan r n good w m h = omega (arith, (accepted g good).rules_fit)
 
-pub plan_length_law : (g offsets s rows entry plan : List ℕ) (r : ℕ) → PlanTo g offsets s rows entry plan r → length plan ≡ length entry
-plan_length_law g offsets s rows entry plan r w =
+pub plan_length_law : (g s rows entry plan : List ℕ) (r : ℕ) → PlanTo g s rows entry plan r → length plan ≡ length entry
+plan_length_law g s rows entry plan r w =
     ap length w.words
     ∙ over_size (sets g ++ sequences g r) entry (omega (arith, done_length g r, w.inside, w.ready.plan_room))
 
-pub plan_kept : (g offsets s rows lent entry plan : List ℕ) (r : ℕ) → OrderedStage g offsets s rows (length lent) → entry ≡ written lent 0 s
-    → PlanTo g offsets s rows entry plan r → length plan ≡ length lent
-plan_kept g offsets s rows lent entry plan r d e w =
-    plan_length_law g offsets s rows entry plan r w
+pub plan_kept : (g s rows lent entry plan : List ℕ) (r : ℕ) → OrderedStage g s rows (length lent) → entry ≡ written lent 0 s
+    → PlanTo g s rows entry plan r → length plan ≡ length lent
+plan_kept g s rows lent entry plan r d e w =
+    plan_length_law g s rows entry plan r w
     ∙ (ap length (e ∙ first_written s lent)
     ∙ over_size s lent (omega (arith, ap length d.sets_are, length_sets g (ids_of g), d.plan_room)))
 
 -- the table by visit: the symbols and their visits are few
-pub by_symbols : (g offsets s rows : List ℕ) (n : ℕ) → OrderedStage g offsets s rows n → symbols g ≤ most_symbols
-by_symbols g offsets s rows n w = (accepted g w.good).symbols_fit
+pub by_symbols : (g : List ℕ) → read_table g ≡ Good → symbols g ≤ most_symbols
+by_symbols g good = (accepted g good).symbols_fit
 
-pub by_few : (g offsets s rows : List ℕ) (n : ℕ) → OrderedStage g offsets s rows n → FewVisits s
-by_few g offsets s rows n w x = subst⁻¹ (λ (y : List ℕ). visits y x ≤ 5) w.sets_are (visits_five g (ids_of g) x)
+pub by_few : (g s rows : List ℕ) (n : ℕ) → OrderedStage g s rows n → FewVisits s
+by_few g s rows n w x = subst⁻¹ (λ (y : List ℕ). visits y x ≤ 5) w.sets_are (visits_five g (ids_of g) x)
 
 -- what the sequence of rule r asks for
-pub plan_given : (g offsets s by rows entry plan : List ℕ) (r p n : ℕ) → PlanTo g offsets s rows entry plan r → ByVisit g s by → n ≡ rules g → r < n
+pub plan_given : (g offsets s : List ℕ) (by : Kept) (rows entry plan : List ℕ) (r p n : ℕ) → read_table g ≡ Good → offsets ≡ offsets_for g Good → PlanTo g s rows entry plan r → ByVisit g s by → n ≡ rules g → r < n
     → p ≡ get_or offsets r 0 → Given g (set_words g) by rows p r
-plan_given g offsets s by rows entry plan r p n w seen m h e =
+plan_given g offsets s by rows entry plan r p n good starts w seen m h e =
     let d = w.ready in
     let l : r < rules g = omega arith in
     record {
-      good = d.good;
+      good = good;
       counts = l;
-      starts = offset_is g offsets r p d.starts l e;
+      starts = offset_is g offsets r p starts l e;
       sets = refl;
       by_visit = subst (λ (x : List ℕ). ByVisit g x by) d.sets_are seen;
-      noncircular = no_idp_cycle_law g d.good d.no_idp_cycle;
-      ordered = no_edp_cycle_law g d.good d.no_edp_cycle;
+      noncircular = no_idp_cycle_law g good d.no_idp_cycle;
+      ordered = no_edp_cycle_law g good d.no_edp_cycle;
       room = d.size;
       paths = λ o b. ap (λ (x : List ℕ). word x (most_occurrences * r + o)) d.paths ∙ over_row g (edp_paths g (ids_of g) (set_words g)) rows r o l b;
     }
 
-pub plan_fits : (g offsets s rows entry plan : List ℕ) (r : ℕ) → PlanTo g offsets s rows entry plan r → plan_words (rules g) ≤ length plan
-plan_fits g offsets s rows entry plan r w = omega (arith, plan_length_law g offsets s rows entry plan r w, w.ready.plan_room)
+pub plan_fits : (g s rows entry plan : List ℕ) (r : ℕ) → PlanTo g s rows entry plan r → plan_words (rules g) ≤ length plan
+plan_fits g s rows entry plan r w = omega (arith, plan_length_law g s rows entry plan r w, w.ready.plan_room)
 
-pub plan_turn : (g offsets s rows entry plan next : List ℕ) (r n : ℕ) → PlanTo g offsets s rows entry plan r → n ≡ rules g → r < n
+pub plan_turn : (g s rows entry plan next : List ℕ) (r n : ℕ) → PlanTo g s rows entry plan r → n ≡ rules g → r < n
     → next ≡ written plan (plan_words r) (sequence_words (sequence_of g (ids_of g) (sets_of g (ids_of g)) r))
-    → PlanTo g offsets s rows entry next (r + 1)
+    → PlanTo g s rows entry next (r + 1)
 unfolding sequences_of blocks
-plan_turn g offsets s rows entry plan next r n w m h e =
+plan_turn g s rows entry plan next r n w m h e =
     let block : List ℕ = sequence_words (sequences_of g r) in
     record {
       ready = w.ready;
@@ -154,10 +158,10 @@ plan_turn g offsets s rows entry plan next r n w m h e =
           ∙ ap (λ (k : ℕ). sets g ++ sequences g k) (sym (add-one r)))));
     }
 
-pub plan_finish : (g offsets s rows lent entry plan : List ℕ) (r n : ℕ) → PlanTo g offsets s rows entry plan r → n ≡ rules g → n ≤ r
+pub plan_finish : (g s rows lent entry plan : List ℕ) (r n : ℕ) → PlanTo g s rows entry plan r → n ≡ rules g → n ≤ r
     → entry ≡ written lent 0 s → plan ≡ over (accepted_plan g) lent
 unfolding accepted_plan plan_of
-plan_finish g offsets s rows lent entry plan r n w m h e =
+plan_finish g s rows lent entry plan r n w m h e =
     let k : r ≡ rules g = omega (arith, w.inside) in
     let q : entry ≡ over (sets g) lent = e ∙ (first_written s lent ∙ ap (λ (x : List ℕ). over x lent) w.ready.sets_are) in
     w.words

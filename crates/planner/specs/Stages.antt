@@ -1,17 +1,14 @@
 -- What planning knows at each of its stages, and what it answers and leaves by how far it came.
 -- For proofs of the code: no demand rests on it. Assumes nothing.
-use Rattle.std.specs.Prelude.{ℕ, ◌≤◌, ◌≡◌, false, List, length}
+use Rattle.std.specs.Prelude.{ℕ, ◌≤◌, ◌≡◌, false, List, length, Result}
 use Rattle.basics.specs.Lists.{padded}
-use Rattle.grammar.specs.declared.Verdict.{Verdict}
-use Rattle.grammar.specs.declared.Verdict.TheVariants.{Good}
+use Rattle.refusals.specs.declared.Refusal.{Refusal}
+use Rattle.grammar.specs.Verdicts.{Good}
 use Rattle.grammar.specs.Limits.{row_words, plan_words}
 use Rattle.grammar.specs.Table.{rules}
-use Rattle.grammar.specs.Reading.{read_table}
 use Rattle.relations.specs.Computed.{ids_of}
 use Rattle.sets.specs.Computed.{sets_of}
 use Rattle.order.specs.Computed.{circular}
-use Rattle.access.specs.Offsets.{offsets_for}
-use Rattle.plans.specs.declared.Planned as P
 use Rattle.plans.specs.Buffers.{over, rows_of}
 use Rattle.plans.specs.Answer.{Outcome, room, idp_paths, edp_paths, after_room, after_idp, answer_of, rows_after, plan_after}
 
@@ -19,28 +16,17 @@ use Rattle.plans.specs.Answer.{Outcome, room, idp_paths, edp_paths, after_room, 
 abbrev pub sets : List ℕ → List ℕ
 sets g = sets_of g (ids_of g)
 
--- what reading answers of a table: its verdict, and where the rules start
-pub record Reads (g : List ℕ) (verdict : Verdict) (offsets : List ℕ) : Type 0 where
-  pub verdict_is : verdict ≡ read_table g
-  pub offsets_are : offsets ≡ offsets_for g (read_table g)
+-- The table is accepted at every stage: that is said by its type, and not again here.
 
--- the table is accepted and the buffers have room
-pub record Read (g offsets : List ℕ) (rows_length plan_length : ℕ) : Type 0 where
-  pub good : read_table g ≡ Good
-  pub starts : offsets ≡ offsets_for g Good
-  pub space : room g rows_length plan_length ≡ Good
-
--- no IDP has a cycle, and the rows hold the paths of IDP
-pub record Noncircular (g offsets ids rows : List ℕ) (plan_length : ℕ) : Type 0 where
-  pub read : Read g offsets (length rows) plan_length
+-- no IDP has a cycle, and the rows hold the paths of IDP; the buffers have room
+pub record Noncircular (g ids rows : List ℕ) (plan_length : ℕ) : Type 0 where
+  pub space : room g (length rows) plan_length ≡ Good
   pub ids_are : ids ≡ padded 32 (ids_of g)
   pub paths : rows ≡ over (rows_of g (idp_paths g (ids_of g))) rows
   pub no_idp_cycle : circular g (idp_paths g (ids_of g)) ≡ false
 
 -- no IDP and no EDP has a cycle, and the rows hold the paths of EDP
-pub record OrderedStage (g offsets s rows : List ℕ) (plan_length : ℕ) : Type 0 where
-  pub good : read_table g ≡ Good
-  pub starts : offsets ≡ offsets_for g Good
+pub record OrderedStage (g s rows : List ℕ) (plan_length : ℕ) : Type 0 where
   pub sets_are : s ≡ sets g
   pub size : row_words (rules g) ≤ length rows
   pub paths : rows ≡ over (rows_of g (edp_paths g (ids_of g) (sets g))) rows
@@ -56,7 +42,7 @@ abbrev pub after_nine : List ℕ → Outcome
 after_nine g = after_idp g (ids_of g) (sets g)
 
 -- what is answered and left of the lent rows and plan where planning came to outcome o
-pub record Came (g : List ℕ) (o : Outcome) (rows plan : List ℕ) (answer : P.Planned) (rows' plan' : List ℕ) : Type 0 where
+pub record Came (g : List ℕ) (o : Outcome) (rows plan : List ℕ) (answer : Result ℕ Refusal) (rows' plan' : List ℕ) : Type 0 where
   pub answers : answer ≡ answer_of g o
   pub rows_are : rows' ≡ rows_after g o rows
   pub plan_is : plan' ≡ plan_after g o plan

@@ -10,7 +10,7 @@ use Rattle.basics.proofs.TestLaws.{tested, chosen, passed_over, false_T}
 use Rattle.refusals.specs.declared.Refusal.{Refusal}
 use Rattle.refusals.specs.declared.Refusal.TheVariants.{CircularIdp, CircularEdp}
 use Rattle.grammar.specs.Limits.{most_occurrences}
-use Rattle.grammar.specs.declared.Verdict.TheVariants.{Good}
+use Rattle.grammar.specs.Verdicts.{Good}
 use Rattle.grammar.specs.Table.{rule_counts}
 use Rattle.grammar.specs.Reading.{read_table}
 use Rattle.grammar.proofs.AcceptedTable.{accepted}

@@ -7,13 +7,14 @@ use mathlib.Core.Bool.{Bool}
 use mathlib.Core.List.{List}
 use native.Mathlib.Omega.{arith}
 use lib.Dec.{T, eqb→eq}
+use Rattle.std.specs.Prelude.{Ok}
 use Rattle.basics.proofs.TestLaws.{below_or_not, eq_T}
 use Rattle.bits.specs.Bit.{bit, collect}
 use Rattle.bits.proofs.CollectLaws.{bit_collect_above}
 use Rattle.bits.proofs.MemberLaws.{hasb_collect}
 use Rattle.refusals.specs.declared.Refusal.{Refusal}
 use Rattle.grammar.specs.Limits.{most_occurrences, plan_words}
-use Rattle.grammar.specs.declared.Verdict.TheVariants.{Good}
+use Rattle.grammar.specs.Verdicts.{Good}
 use Rattle.grammar.specs.Table.{rules, rule_counts}
 use Rattle.grammar.specs.Reading.{read_table}
 use Rattle.grammar.proofs.AcceptedTable.{accepted as well_formed}
@@ -29,7 +30,6 @@ use Rattle.order.specs.Paper.{PaperSets, CircularIDP}
 use Rattle.order.proofs.ExactEdp.{edp_path_exact, edp_to}
 use Rattle.order.proofs.WholeGrammar.{number_is_law, edp_paths_same}
 use Rattle.sequences.proofs.PaperSequence.{sequence_only}
-use Rattle.plans.specs.declared.Planned as P
 use Rattle.plans.specs.Buffers.{over, rows_of}
 use Rattle.plans.specs.Answer.{circular_idp, unordered, accepted, idp_paths, edp_paths, accepted_plan, answer_of, rows_after, plan_after}
 use Rattle.plans.specs.Left.{RowsHold, EDP⁺, SequenceStands, Written}
@@ -37,7 +37,7 @@ use Rattle.plans.proofs.RowWords.{over_row}
 use Rattle.plans.proofs.PlanWords.{numbers_same, sequence_stands}
 
 -- "An accepted plan returns 256 + 112R."
-pub accepted_answer : (g : List ℕ) → answer_of g accepted ≡ P.TheVariants.Accepted (plan_words (rules g))
+pub accepted_answer : (g : List ℕ) → answer_of g accepted ≡ Ok (plan_words (rules g))
 unfolding answer_of
 accepted_answer g = refl
 

@@ -6,7 +6,7 @@ use mathlib.Core.Logic.{◌↔◌}
 use mathlib.Core.List.{List}
 use native.Mathlib.Omega.{arith}
 use Rattle.refusals.specs.declared.Refusal.{Refusal}
-use Rattle.grammar.specs.declared.Verdict.TheVariants.{Good}
+use Rattle.grammar.specs.Verdicts.{Good}
 use Rattle.grammar.specs.Reading.{read_table}
 use Rattle.sets.specs.Visits.{set_number}
 use Rattle.order.specs.Paper.{CircularIDP, Ordered, IsOrdered}

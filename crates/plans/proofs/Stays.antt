@@ -7,11 +7,10 @@ use mathlib.Core.List.{List}
 use native.Mathlib.Omega.{arith}
 use lib.Dec.{leb→le}
 use lib.ListN.{length}
+use Rattle.std.specs.Prelude.{Ok, Err}
 use Rattle.refusals.specs.declared.Refusal.{Refusal}
 use Rattle.grammar.specs.Limits.{row_words, plan_words}
-use Rattle.grammar.specs.declared.Verdict.{Verdict}
-use Rattle.grammar.specs.declared.Verdict.TheVariants.{Good, Refused}
-use Rattle.grammar.specs.Verdicts.{◌then◌}
+use Rattle.grammar.specs.Verdicts.{Verdict, Good, ◌then◌}
 use Rattle.grammar.proofs.VerdictLaws.{unless_passes, then_first, then_second}
 use Rattle.grammar.specs.Table.{rules}
 use Rattle.grammar.specs.Reading.{read_table}
@@ -67,8 +66,8 @@ unfolding outcome after_reading
 accepted_room g rows_length plan_length e = go (read_table g then room g rows_length plan_length) refl
   where
     go : (v : Verdict) → (read_table g then room g rows_length plan_length) ≡ v → room g rows_length plan_length ≡ Good
-    go Good i = then_second (read_table g) (room g rows_length plan_length) i
-    go (Refused n) i =
+    go (Ok _) i = then_second (read_table g) (room g rows_length plan_length) i
+    go (Err n) i =
         absurd (let q : untouched n ≡ accepted = sym (ap (after_reading g) i) ∙ e in let z : ◌≡◌ {A = ℕ} 0 1 = cc in omega arith)
 
 -- whatever the table and the lengths
@@ -81,10 +80,10 @@ module _ (g rows plan : List ℕ) where
     where
       go : (v : Verdict) → (read_table g then room g (length rows) (length plan)) ≡ v
           → (row_words (rules g) ≤ length rows) × (plan_words (rules g) ≤ length plan)
-      go Good i =
+      go (Ok _) i =
           let w : room g (length rows) (length plan) ≡ Good = then_second (read_table g) (room g (length rows) (length plan)) i in
           (leb→le _ _ (unless_passes _ _ (then_first _ _ w)), leb→le _ _ (unless_passes _ _ (then_second _ _ w)))
-      go (Refused n) i = absurd (h n (sym e ∙ ap (after_reading g) i))
+      go (Err n) i = absurd (h n (sym e ∙ ap (after_reading g) i))
 
   pub rows_stay : Beyond (row_words (rules g)) rows (rows_after g (outcome g (length rows) (length plan)) rows)
   rows_stay = go (outcome g (length rows) (length plan)) refl

@@ -1,19 +1,16 @@
 -- Document 01, refusals 8 to 10, and what planning answers and leaves in the lent buffers for every input.
 -- Computed: no demand rests on it. Assumes nothing.
-use Rattle.std.specs.Prelude.{ℕ, Bool, cond, List, leb}
+use Rattle.std.specs.Prelude.{ℕ, Bool, cond, List, leb, Ok, Err, Result}
 use Rattle.refusals.specs.declared.Refusal.{Refusal}
 use Rattle.refusals.specs.declared.Refusal.TheVariants.{TooShort, CircularIdp, CircularEdp}
-use Rattle.grammar.specs.declared.Verdict.{Verdict}
-use Rattle.grammar.specs.declared.Verdict.TheVariants.{Good, Refused}
 use Rattle.grammar.specs.Limits.{row_words, plan_words}
 use Rattle.grammar.specs.Table.{rules}
-use Rattle.grammar.specs.Verdicts.{◌then◌, unless}
+use Rattle.grammar.specs.Verdicts.{Verdict, ◌then◌, unless}
 use Rattle.grammar.specs.Reading.{read_table}
 use Rattle.relations.specs.Computed.{ids_of, idp_path}
 use Rattle.sets.specs.Computed.{sets_of}
 use Rattle.order.specs.Computed.{edp_path, circular, cycle_rule, cycle_occurrence}
 use Rattle.sequences.specs.Order.{sequence_of}
-use Rattle.plans.specs.declared.Planned as P
 use Rattle.plans.specs.Buffers.{over, rows_of, plan_of}
 
 -- How far planning came, and with it what is left in the buffers.
@@ -52,8 +49,8 @@ after_room g ids =
     (circular_idp (CircularIdp (cycle_rule g (idp_paths g ids)) (cycle_occurrence g (idp_paths g ids)))) (after_idp g ids (sets_of g ids))
 
 unfoldable pub after_reading : List ℕ → Verdict → Outcome
-after_reading g Good = after_room g (ids_of g)
-after_reading g (Refused n) = untouched n
+after_reading g (Ok _) = after_room g (ids_of g)
+after_reading g (Err n) = untouched n
 
 -- how far planning comes with rows and a plan of these lengths
 unfoldable pub outcome : List ℕ → ℕ → ℕ → Outcome
@@ -68,11 +65,11 @@ unfoldable pub accepted_plan : List ℕ → List ℕ
 accepted_plan g = plan_of g (sets_of g (ids_of g)) (sequences_of g)
 
 -- what planning answers: "An accepted plan returns 256 + 112R"
-unfoldable pub answer_of : List ℕ → Outcome → P.Planned
-answer_of g (untouched n) = P.TheVariants.Refused n
-answer_of g (circular_idp n) = P.TheVariants.Refused n
-answer_of g (unordered n) = P.TheVariants.Refused n
-answer_of g accepted = P.TheVariants.Accepted (plan_words (rules g))
+unfoldable pub answer_of : List ℕ → Outcome → Result ℕ Refusal
+answer_of g (untouched n) = Err n
+answer_of g (circular_idp n) = Err n
+answer_of g (unordered n) = Err n
+answer_of g accepted = Ok (plan_words (rules g))
 
 -- what it leaves in the rows
 unfoldable pub rows_after : List ℕ → Outcome → List ℕ → List ℕ

@@ -1,11 +1,3 @@
-// Planning: what it answers and what it leaves in the lent rows and plan. `Planned` is the answer; the definitions of `specs/` say which.
+// Planning: what it answers and what it leaves in the lent rows and plan. It answers the words of the plan or a refusal; the definitions of `specs/` say
+// which. No code yet.
 #![tactic(auto)]
-
-use refusals::Refusal;
-
-#[derive(Clone, Copy)]
-pub enum Planned {
-    // The words of the plan.
-    Accepted(usize),
-    Refused(Refusal),
-}

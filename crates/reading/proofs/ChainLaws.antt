@@ -6,11 +6,10 @@ use mathlib.Core.List.{List}
 use native.Mathlib.Omega.{arith}
 use lib.Dec.{ltb, leb}
 use lib.ListN.{get_or}
+use Rattle.std.specs.Prelude.{Ok, Err}
 use Rattle.refusals.specs.declared.Refusal.{Refusal}
-use Rattle.grammar.specs.declared.Verdict.{Verdict}
-use Rattle.grammar.specs.declared.Verdict.TheVariants.{Good, Refused}
 use Rattle.grammar.specs.Table.{symbols, kind, attributes, symbol_at, length_at, functions_at}
-use Rattle.grammar.specs.Verdicts.{◌then◌, each}
+use Rattle.grammar.specs.Verdicts.{Verdict, Good, Refused, ◌then◌, each}
 use Rattle.grammar.specs.Reading.{present, ranged, symbol_fault}
 use Rattle.access.specs.ByPlace.{symbol_test, function_from}
 use Rattle.access.proofs.Laws.{stops, passes, each_none, each_more, each_stop, each_end, ranged_of, leb_of, ltb_of, right_of, count_of, ranged_le}
@@ -18,14 +17,14 @@ use Rattle.reading.specs.Parts.{mask_fault, target_fault, operands_fault, right_
 
 pub then_assoc : (u v w : Verdict) → (u then v) then w ≡ u then (v then w)
 unfolding ◌then◌
-then_assoc Good v w = refl
-then_assoc (Refused n) v w = refl
+then_assoc (Ok _) v w = refl
+then_assoc (Err n) v w = refl
 
 pub then_group : (t u v w : Verdict) → t then (u then (v then w)) ≡ (t then (u then v)) then w
 unfolding ◌then◌
-then_group Good Good v w = refl
-then_group Good (Refused n) v w = refl
-then_group (Refused n) u v w = refl
+then_group (Ok _) (Ok _) v w = refl
+then_group (Ok _) (Err n) v w = refl
+then_group (Err n) u v w = refl
 
 -- ---- a symbol: its kind, its count, then its mask
 

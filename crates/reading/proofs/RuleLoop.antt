@@ -1,29 +1,30 @@
 -- The loop over the rules: after r of them the next starts where the definition says, the offsets of those before it stand in their places,
 -- and the set says whether the rule just read is complete. Assumes nothing.
 use Prim.Native.Nat.{ℕ, suc, ◌+◌, ◌*◌, ◌≤◌, ◌<◌}
-use mathlib.Core.Path.{◌≡◌, refl, sym, ◌∙◌, ap, ap₂}
+use mathlib.Core.Path.{◌≡◌, refl, sym, ◌∙◌, ap, ap₂, subst⁻¹}
 use mathlib.Core.Bool.{Bool}
 use mathlib.Core.List.{List}
 use native.Mathlib.Omega.{arith}
 use native.Mathlib.Numerals.{add-one}
 use lib.Dec.{leb, eqb}
 use lib.ListN.{length, set, replicate}
+use Rattle.std.specs.Prelude.{Result, Ok, Err, IsErrAnd}
 use Rattle.basics.specs.Lists.{tabulate, padded}
 use Rattle.basics.proofs.ListLaws.{padded_none, padded_more}
 use Rattle.refusals.specs.declared.Refusal.{Refusal}
 use Rattle.refusals.specs.declared.Refusal.TheVariants.{Undefined, LeftOver}
-use Rattle.grammar.specs.declared.Verdict.{Verdict}
-use Rattle.grammar.specs.declared.Verdict.TheVariants.{Good, Refused}
 use Rattle.grammar.specs.Table.{symbols, rules, rule_at}
-use Rattle.grammar.specs.Verdicts.{◌then◌, unless, each}
+use Rattle.grammar.specs.Verdicts.{Verdict, Good, Refused, ◌then◌, unless, each}
 use Rattle.grammar.specs.Reading.{symbol_fault, rule_before, rule_fault, left_over, read_table}
-use Rattle.grammar.proofs.VerdictLaws.{then_first, then_second, each_at}
+use Rattle.grammar.proofs.VerdictLaws.{handed_out, then_first, then_second, each_at}
 use Rattle.grammar.proofs.AcceptedSymbols.{symbol_formed, header_symbols, header_rules}
+use Rattle.access.specs.declared.Table.{Table}
 use Rattle.access.specs.Offsets.{offsets_for}
 use Rattle.access.specs.ByPlace.{Symbols, rule_from, next_rule, leaves}
 use Rattle.access.proofs.Laws.{stops, passes, each_none, each_more, each_stop, each_end}
 use Rattle.access.proofs.Same.{complete_same, rule_same}
-use Rattle.reading.specs.Parts.{opening_fault, ending_fault, RuleRead, TableRead}
+use Rattle.reading.specs.declared.functions.Rule.{Rule}
+use Rattle.reading.specs.Parts.{opening_fault, ending_fault, RulePasses, RuleRead, RulesRead, TableRead}
 use Rattle.reading.proofs.ChainLaws.{then_group}
 
 -- ---- the opening
@@ -34,21 +35,10 @@ cut : (g : List ℕ) → read_table g
 unfolding read_table opening_fault
 cut g = then_group _ _ _ _
 
--- a refused table has no offsets
-refused : (g : List ℕ) (v s : Verdict) (m : Refusal) (offsets : List ℕ) → v ≡ read_table g → v ≡ Refused m → s ≡ v → offsets ≡ replicate 64 0
-    → TableRead g s offsets
-unfolding offsets_for
-refused g v s m offsets e h d k = record { answers = d ∙ e; table = k ∙ ap (offsets_for g) (sym h ∙ e) }
-
-module _ (g : List ℕ) (u : Verdict) (m : Refusal) (d : u ≡ opening_fault g) (h : u ≡ Refused m) where
-  answers : u ≡ read_table g
-  answers = stops _ _ u m d h ∙ sym (cut g)
-
-  pub opening_answers : (s : Verdict) → s ≡ u → s ≡ read_table g
-  opening_answers s i = i ∙ answers
-
-  pub opening_offsets : (offsets : List ℕ) → offsets ≡ replicate 64 0 → offsets ≡ offsets_for g (read_table g)
-  opening_offsets offsets k = (refused g u u m offsets answers h refl k).table
+-- an opening that is refused answers for the table
+pub opening_answers : (g : List ℕ) (u : Verdict) (r : Result Table Refusal) (m : Refusal) → u ≡ opening_fault g → u ≡ Refused m → IsErrAnd r (λ e. e ≡ m)
+    → TableRead g r
+opening_answers g u r m d h i = subst⁻¹ (TableRead g) (handed_out r m i) (sym (stops _ _ u m d h ∙ sym (cut g)) ∙ h)
 
 pub opened : (g : List ℕ) (u : Verdict) → u ≡ opening_fault g → u ≡ Good → opening_fault g ≡ Good
 opened g u d h = sym d ∙ h
@@ -95,33 +85,33 @@ module _ (g offsets : List ℕ) (n p undefined r : ℕ) (at : AtRule g offsets n
   test : (v : Verdict) → v ≡ rule_from g p undefined → v ≡ rule_fault g r
   test v e = e ∙ rule_same g r p undefined at.place at.before
 
-  pub turn : (v : Verdict) (next rest : ℕ) → r < n → RuleRead g p (rule_from g p undefined) v next rest → v ≡ Good
-      → AtRule g (set offsets r p) n next rest (r + 1)
+  pub turn : (rule : Rule) → r < n → RulePasses g p (rule_from g p undefined) rule → AtRule g (set offsets r p) n rule.next rule.undefined (r + 1)
   unfolding rule_at rule_before
-  turn v next rest h read k =
-      let moved : next ≡ rule_at g (suc r) = read.goes k ∙ ap (next_rule g) at.place in
-      let kept : rest ≡ leaves g (rule_at g r) = read.left k ∙ ap (leaves g) at.place in
+  turn rule h read =
+      let moved : rule.next ≡ rule_at g (suc r) = read.goes ∙ ap (next_rule g) at.place in
+      let kept : rule.undefined ≡ leaves g (rule_at g r) = read.left ∙ ap (leaves g) at.place in
       record {
         inside = omega arith;
         few = at.few;
-        passed = each_more r (λ n. rule_fault g n) v at.passed (test v read.answers) k;
+        passed = each_more r (λ n. rule_fault g n) Good at.passed (test Good (sym read.passes)) refl;
         place = moved ∙ sym (ap (rule_at g) (add-one r));
         before =
             ap (rule_before g) (add-one r)
             ∙ ap₂ (λ (b : Bool) (q : ℕ). unless b (Undefined q)) (complete_same g r ∙ ap (λ (s : ℕ). eqb s 0) (sym kept)) (sym moved);
-        near = omega (arith, at.near, read.near k);
+        near = omega (arith, at.near, read.near);
         table =
             ap₂ (λ (o : List ℕ) (q : ℕ). set o r q) at.table at.place ∙ padded_more 64 r (λ n. rule_at g n) (omega (arith, at.few));
       }
 
   module _ (opens : opening_fault g ≡ Good) (q : n ≡ rules g) where
-    pub rule_stops : (v s : Verdict) (m : Refusal) (next rest : ℕ) (none : List ℕ) → r < n → RuleRead g p (rule_from g p undefined) v next rest
-        → v ≡ Refused m → s ≡ v → none ≡ replicate 64 0 → TableRead g s none
-    rule_stops v s m next rest none h read i d k =
-        refused g v s m none
-        (passes _ _ Good v (sym opens) refl
-        (stops _ _ v m (each_stop (rules g) r (λ n. rule_fault g n) v m (omega arith) at.passed (test v read.answers) i) i)
-        ∙ sym (cut g)) i d k
+    pub rule_stops : (s : Result (List ℕ) Refusal) (m : Refusal) → r < n → RuleRead g p (rule_from g p undefined) (Err m) → IsErrAnd s (λ e. e ≡ m)
+        → RulesRead g s
+    rule_stops s m h read i =
+        subst⁻¹ (RulesRead g) (handed_out s m i)
+        (sym (passes _ _ Good (Refused m) (sym opens) refl
+        (stops _ _ (Refused m) m
+        (each_stop (rules g) r (λ n. rule_fault g n) (Refused m) m (omega arith) at.passed (test (Refused m) (sym read)) refl) refl)
+        ∙ sym (cut g)))
 
     module _ (l : n ≤ r) (w : Verdict) (e : w ≡ ending_fault g p undefined) where
       last : r ≡ rules g
@@ -137,15 +127,9 @@ module _ (g offsets : List ℕ) (n p undefined r : ℕ) (at : AtRule g offsets n
           (ap (λ (x : ℕ). unless (leb (length g) x) (LeftOver x)) (at.place ∙ ap (rule_at g) last))))
           ∙ sym (cut g)
 
-      pub ending_stops : (s : Verdict) (m : Refusal) (none : List ℕ) → w ≡ Refused m → s ≡ w → none ≡ replicate 64 0 → TableRead g s none
-      ending_stops s m none i d k = refused g w s m none ending i d k
+      pub ending_stops : (s : Result (List ℕ) Refusal) (m : Refusal) → w ≡ Refused m → IsErrAnd s (λ e. e ≡ m) → RulesRead g s
+      ending_stops s m i d = subst⁻¹ (RulesRead g) (handed_out s m d) (sym ending ∙ i)
 
-      pub all_read : w ≡ Good → TableRead g Good offsets
+      pub all_read : w ≡ Good → RulesRead g (Ok offsets)
       unfolding offsets_for
-      all_read i =
-          record {
-            answers = sym i ∙ ending;
-            table =
-                at.table
-                ∙ (ap (λ (m : ℕ). padded 64 (tabulate m (λ n. rule_at g n))) last ∙ ap (offsets_for g) (sym i ∙ ending));
-          }
+      all_read i = (sym ending ∙ i, at.table ∙ ap (λ (m : ℕ). padded 64 (tabulate m (λ n. rule_at g n))) last)

@@ -3,23 +3,23 @@
 use Prim.Native.Nat.{ℕ, suc, ◌+◌, ◌^◌, ◌≤◌, ◌<◌}
 use mathlib.Core.Path.{◌≡◌, refl, sym, ◌∙◌, ap, ap₂, subst, subst⁻¹}
 use mathlib.Core.Logic.{◌⊎◌, inl, inr, ⊎_elim}
-use mathlib.Core.Bool.{Bool, true, false, cond}
+use mathlib.Core.Bool.{Bool, true, false}
 use mathlib.Core.List.{List}
 use native.Mathlib.Omega.{arith}
 use native.Mathlib.Nat.{not-suc-le-zero}
 use lib.Dec.{T, leb, eqb, eqb→eq, le→leb, T_not}
 use lib.ListN.{length, get_or}
 use borrow.Author.Tests.{le-leb, lt-leb, eq-eqb, ne_eqb}
+use Rattle.std.specs.Prelude.{Option, Some, None, Ok, Err}
+use Rattle.std.specs.Bool.{then_some}
 use Rattle.basics.specs.Tests.{◌and◌, ◌or◌}
 use Rattle.basics.proofs.TestLaws.{same_or_not, tested, below_suc, same_test, true_T, T_true, false_T, eq_T, and_intro, and_left, and_right}
 use Rattle.bits.specs.Bit.{bit, hasb, insert, minus}
 use Rattle.bits.proofs.BitLaws.{bit_single_same, bit_single_other, bit_has, has_bit}
 use Rattle.bits.proofs.MemberLaws.{hasb_below, insert_cases, insert_new, insert_old, no_member, none_left, minus_both, both_minus}
 use Rattle.refusals.specs.declared.Refusal.{Refusal}
-use Rattle.grammar.specs.declared.Verdict.{Verdict}
-use Rattle.grammar.specs.declared.Verdict.TheVariants.{Good, Refused}
 use Rattle.grammar.specs.Table.{argument_words}
-use Rattle.grammar.specs.Verdicts.{each}
+use Rattle.grammar.specs.Verdicts.{Verdict, Good, Refused, each}
 use Rattle.grammar.specs.Reading.{present, ranged}
 use Rattle.grammar.proofs.RuleStarts.{argument_words_law}
 use Rattle.grammar.proofs.VerdictLaws.{then_first, then_second, then_good, unless_passes, unless_good, each_at, each_good}
@@ -130,17 +130,17 @@ module _ (a b c d p q u v : ℕ) (e : p ≡ 2 ^ a) (f : q ≡ insert b p) (g : u
 
 -- ---- the words of a function
 
-words_good : (v : Verdict) (n : ℕ) → v ≡ Good → n ≡ words_if v n
+words_good : (v : Verdict) (n : ℕ) → v ≡ Good → Some n ≡ words_if v n
 unfolding words_if
 words_good v n e = sym (ap (λ (u : Verdict). words_if u n) e)
 
-words_refused : (v : Verdict) (n : ℕ) → (v ≡ Good → ⊥) → 0 ≡ words_if v n
+words_refused : (v : Verdict) (n : ℕ) → (v ≡ Good → ⊥) → None ≡ words_if v n
 unfolding words_if
-words_refused Good n h = absurd (h refl)
-words_refused (Refused m) n h = refl
+words_refused (Ok _) n h = absurd (h refl)
+words_refused (Err m) n h = refl
 
 -- a test that passes exactly where the verdict is good
-words_tested : (v : Verdict) (t : Bool) (n r : ℕ) → r ≡ cond t n 0 → (T t → v ≡ Good) → (v ≡ Good → T t) → r ≡ words_if v n
+words_tested : (v : Verdict) (t : Bool) (n : ℕ) (r : Option ℕ) → r ≡ then_some t n → (T t → v ≡ Good) → (v ≡ Good → T t) → r ≡ words_if v n
 words_tested v true n r e f h = e ∙ words_good v n (f tt)
 words_tested v false n r e f h = e ∙ words_refused v n h
 
@@ -172,7 +172,7 @@ module _ (g : List ℕ) (f s : ℕ) (fits : f + 6 ≤ length g) where
     operation_good h =
         then_good _ _ (there (f + 1) (omega arith)) (unless_good _ _ (le→leb (get_or g (f + 1) 0) 8 (omega arith)))
 
-    pub operation_past : 8 < op → 0 ≡ words_if (operands_fault g f s) (function_words g f)
+    pub operation_past : 8 < op → None ≡ words_if (operands_fault g f s) (function_words g f)
     unfolding operands_fault
     operation_past h = words_refused _ _ (λ y. omega (arith, ranged_le g (f + 1) (get_or g (f + 1) 0) 8 _ refl (then_first _ _ y)))
 
@@ -184,12 +184,12 @@ module _ (g : List ℕ) (f s : ℕ) (fits : f + 6 ≤ length g) where
         ap (λ (o : ℕ). each (argument_words o) (λ j. argument_from g (f + 2 + j) (eqb o 0) s)) (sym e)
         ∙ ap₂ (λ (m : ℕ) (b : Bool). each m (λ j. argument_from g (f + 2 + j) b s)) h k
 
-    pub constant_words : op < 2 → (op ≡ 1 → ⊥) → 3 ≡ words_if (operands_fault g f s) (function_words g f)
+    pub constant_words : op ≡ 0 → Some 3 ≡ words_if (operands_fault g f s) (function_words g f)
     unfolding operands_fault argument_from argument_words ◌or◌
-    constant_words h k =
+    constant_words h =
         let one : argument_words op ≡ 1 = simp (le-leb op 1 (omega arith)) in
         let w : 3 ≡ function_words g f = ap (λ (m : ℕ). 2 + m) (sym one ∙ ap argument_words e) in
-        w
+        ap (λ (m : ℕ). Some m) w
         ∙ words_good (operands_fault g f s) (function_words g f)
         (then_good _ _ (operation_good (omega arith))
         (arguments_by 1 true one (eq-eqb op 0 (omega arith))
@@ -214,7 +214,7 @@ module _ (g : List ℕ) (f s : ℕ) (fits : f + 6 ≤ length g) where
           (sym (arguments_by n false k (ne_eqb op 0 least)) ∙ then_second _ _ y) j l))
 
       -- and so the test of four words answers, where these are the arguments and nothing else
-      answered : (a b c d : ℕ) (t : Bool) (r : ℕ) → t ≡ four_occur s a b c d → r ≡ cond t (2 + n) 0
+      answered : (a b c d : ℕ) (t : Bool) (r : Option ℕ) → t ≡ four_occur s a b c d → r ≡ then_some t (2 + n)
           → (Four s a b c d → (j : ℕ) → j < n → At j) → (((j : ℕ) → j < n → At j) → Four s a b c d)
           → r ≡ words_if (operands_fault g f s) (function_words g f)
       answered a b c d t r h i into back =
@@ -224,8 +224,8 @@ module _ (g : List ℕ) (f s : ℕ) (fits : f + 6 ≤ length g) where
           (λ y. subst⁻¹ (λ (b : Bool). T b) h (four_together s a b c d (back (operands_passed y))))
           ∙ ap (words_if (operands_fault g f s)) w
 
-    module _ (a : ℕ) (t : Bool) (r : ℕ) (ea : a ≡ get_or g (f + 2) 0) where
-      pub one_word : op ≡ 1 → t ≡ four_occur s a a a a → r ≡ cond t 3 0 → r ≡ words_if (operands_fault g f s) (function_words g f)
+    module _ (a : ℕ) (t : Bool) (r : Option ℕ) (ea : a ≡ get_or g (f + 2) 0) where
+      pub one_word : op ≡ 1 → t ≡ four_occur s a a a a → r ≡ then_some t 3 → r ≡ words_if (operands_fault g f s) (function_words g f)
       unfolding argument_words
       one_word z h i =
           answered 1 (omega arith) (omega arith) (λ y. omega arith) (simp (le-leb op 1 (omega arith))) a a a a t r h i
@@ -235,10 +235,10 @@ module _ (g : List ℕ) (f s : ℕ) (fits : f + 6 ≤ length g) where
           record { first = x; second = x; third = x; fourth = x })
 
       module _ (b : ℕ) (eb : b ≡ get_or g (f + 3) 0) where
-        pub two_words : 2 ≤ op → op ≤ 8 → (op ≡ 7 → ⊥) → (op ≡ 8 → ⊥) → t ≡ four_occur s a b a b → r ≡ cond t 4 0
+        pub two_words : 2 ≤ op → op ≤ 6 → t ≡ four_occur s a b a b → r ≡ then_some t 4
             → r ≡ words_if (operands_fault g f s) (function_words g f)
         unfolding argument_words
-        two_words least most n m h i =
+        two_words least most h i =
             answered 2 (omega arith) (omega arith) (λ y. omega arith) (simp (lt-leb op 1 (omega arith), le-leb op 6 (omega arith))) a b a b t r h i
             (λ w. next 1 (next 0 none (at 0 (f + 2) a ea (omega arith) w.first)) (at 1 (f + 3) b eb (omega arith) w.second))
             (λ k.
@@ -247,7 +247,7 @@ module _ (g : List ℕ) (f s : ℕ) (fits : f + 6 ≤ length g) where
             record { first = x; second = y; third = x; fourth = y })
 
         module _ (c : ℕ) (ec : c ≡ get_or g (f + 4) 0) where
-          pub three_words : op ≡ 7 → t ≡ four_occur s a b c c → r ≡ cond t 5 0 → r ≡ words_if (operands_fault g f s) (function_words g f)
+          pub three_words : op ≡ 7 → t ≡ four_occur s a b c c → r ≡ then_some t 5 → r ≡ words_if (operands_fault g f s) (function_words g f)
           unfolding argument_words
           three_words z h i =
               answered 3 (omega arith) (omega arith) (λ y. omega arith)
@@ -265,7 +265,7 @@ module _ (g : List ℕ) (f s : ℕ) (fits : f + 6 ≤ length g) where
               })
 
           module _ (d : ℕ) (ed : d ≡ get_or g (f + 5) 0) where
-            pub four_words : op ≡ 8 → t ≡ four_occur s a b c d → r ≡ cond t 6 0 → r ≡ words_if (operands_fault g f s) (function_words g f)
+            pub four_words : op ≡ 8 → t ≡ four_occur s a b c d → r ≡ then_some t 6 → r ≡ words_if (operands_fault g f s) (function_words g f)
             unfolding argument_words
             four_words z h i =
                 answered 4 (omega arith) (omega arith) (λ y. omega arith)
@@ -289,7 +289,7 @@ module _ (g : List ℕ) (f x s undefined : ℕ) (m : Bool) (fits : f + 6 ≤ len
   may = e ∙ ap (λ (o : ℕ). hasb o s and hasb o undefined) d
 
   -- a function is its target and then its operands
-  pub target_passes : (r n : ℕ) → m ≡ true → r ≡ words_if (operands_fault g f s) n → r ≡ words_if (function_from g f s undefined) n
+  pub target_passes : (r : Option ℕ) (n : ℕ) → m ≡ true → r ≡ words_if (operands_fault g f s) n → r ≡ words_if (function_from g f s undefined) n
   unfolding function_from operands_fault
   target_passes r n h k =
       let t = subst (λ (b : Bool). T b) may (true_T m h) in
@@ -299,7 +299,7 @@ module _ (g : List ℕ) (f x s undefined : ℕ) (m : Bool) (fits : f + 6 ≤ len
       (passes _ _ Good _ (unless_true _ _ (T_true _ (and_left (hasb (get_or g f 0) s) (hasb (get_or g f 0) undefined) t))) refl
       (passes _ _ Good _ (unless_true _ _ (T_true _ (and_right (hasb (get_or g f 0) s) (hasb (get_or g f 0) undefined) t))) refl refl)))
 
-  pub target_fails : (n : ℕ) → m ≡ false → 0 ≡ words_if (function_from g f s undefined) n
+  pub target_fails : (n : ℕ) → m ≡ false → None ≡ words_if (function_from g f s undefined) n
   unfolding function_from
   target_fails n h =
       words_refused _ n
@@ -309,30 +309,18 @@ module _ (g : List ℕ) (f x s undefined : ℕ) (m : Bool) (fits : f + 6 ≤ len
       (and_intro (hasb (get_or g f 0) s) (hasb (get_or g f 0) undefined) (unless_passes _ _ (then_first _ _ (then_second _ _ y)))
       (unless_passes _ _ (then_first _ _ (then_second _ _ (then_second _ _ y)))))))
 
--- what the words say of a function: some where it passes, and then they are its own
-words_some : (v : Verdict) (n r : ℕ) → r ≡ words_if v n → (r ≡ 0 → ⊥) → Good ≡ v
+-- what the words say of a function: where there are some it passes, and they are its own
+words_pass : (v : Verdict) (n r : ℕ) → Some r ≡ words_if v n → (v ≡ Good) × (r ≡ n)
 unfolding words_if
-words_some Good n r e h = refl
-words_some (Refused m) n r e h = absurd (h e)
-
-words_own : (v : Verdict) (n r : ℕ) → r ≡ words_if v n → (r ≡ 0 → ⊥) → r ≡ n
-unfolding words_if
-words_own Good n r e h = e
-words_own (Refused m) n r e h = absurd (h e)
+words_pass (Ok _) n r e = (refl, cc)
+words_pass (Err m) n r e = absurd (let z : ◌≡◌ {A = ℕ} 0 1 = cc in omega arith)
 
 module _ (g : List ℕ) (f s undefined : ℕ) where
-  pub read_whole : (r : ℕ) → r ≡ words_if (function_from g f s undefined) (function_words g f) → (r ≡ 0 → ⊥) → FunctionRead g f s undefined Good r
-  read_whole r e h =
-      record {
-        answers = words_some _ _ r e h;
-        words = λ y. words_own (function_from g f s undefined) (function_words g f) r e h;
-        few = omega (arith, words_own (function_from g f s undefined) (function_words g f) r e h, (argument_words_law (get_or g (f + 1) 0)).1);
-      }
-
-  pub read_refused : (v : Verdict) (m : Refusal) → v ≡ function_from g f s undefined → v ≡ Refused m → FunctionRead g f s undefined v 0
-  read_refused v m e h = record { answers = e; words = λ y. absurd (refused_good v m h y); few = omega arith }
+  pub read_whole : (r : ℕ) → Some r ≡ words_if (function_from g f s undefined) (function_words g f) → FunctionRead g f s undefined (Ok r)
+  read_whole r e =
+      let p = words_pass (function_from g f s undefined) (function_words g f) r e in
+      (p.0, p.1, omega (arith, p.1, (argument_words_law (get_or g (f + 1) 0)).1))
 
   pub read_words : (v : Verdict) (op n : ℕ) → v ≡ function_from g f s undefined → v ≡ Good → op ≡ get_or g (f + 1) 0 → n ≡ argument_words op → n ≤ 4
-      → FunctionRead g f s undefined Good (2 + n)
-  read_words v op n e h d k l =
-      record { answers = sym h ∙ e; words = λ y. ap (λ (m : ℕ). 2 + m) (k ∙ ap argument_words d); few = omega arith }
+      → FunctionRead g f s undefined (Ok (2 + n))
+  read_words v op n e h d k l = (sym e ∙ h, ap (λ (m : ℕ). 2 + m) (k ∙ ap argument_words d), omega arith)

@@ -1,18 +1,19 @@
 -- The chains of tests of grammar's Reading and access' ByPlace, cut where the code of the reader is cut, and what its parts hand on.
 -- Computed: no demand rests on it. Assumes nothing.
-use Rattle.std.specs.Prelude.{ℕ, ◌+◌, ◌^◌, ◌≤◌, ◌≡◌, Bool, List, ltb, leb, eqb, length}
+use Rattle.std.specs.Prelude.{ℕ, ◌+◌, ◌^◌, ◌≤◌, ◌≡◌, Bool, List, ltb, leb, eqb, length, Option, Some, None, Result, Ok, Err}
 use Rattle.basics.specs.Tests.{◌and◌, ◌or◌}
 use Rattle.basics.specs.Lists.{word}
 use Rattle.bits.specs.Bit.{hasb}
+use Rattle.refusals.specs.declared.Refusal.{Refusal}
 use Rattle.refusals.specs.declared.Refusal.TheVariants.{WrongClass, NoOccurrence, NotDefining, Undefined, LeftOver}
-use Rattle.grammar.specs.declared.Verdict.{Verdict}
-use Rattle.grammar.specs.declared.Verdict.TheVariants.{Good, Refused}
 use Rattle.grammar.specs.Limits.{longest_right, most_functions, last_operation}
 use Rattle.grammar.specs.Table.{symbols, symbol_at, attributes, mask, nonterminal, argument_words, length_at, functions_at}
-use Rattle.grammar.specs.Verdicts.{◌then◌, unless, each}
+use Rattle.grammar.specs.Verdicts.{Verdict, Good, Refused, ◌then◌, unless, each}
 use Rattle.grammar.specs.Reading.{ranged, header, symbol_fault, start_class, read_table}
+use Rattle.access.specs.declared.Table.{Table}
 use Rattle.access.specs.Offsets.{offsets_for}
 use Rattle.access.specs.ByPlace.{symbol_test, arguments_from, function_from, functions_from, undefined_after, next_rule, leaves}
+use Rattle.reading.specs.declared.functions.Rule.{Rule}
 
 -- the mask of symbol x, and its class
 unfoldable pub mask_fault : List ℕ → ℕ → Verdict
@@ -40,10 +41,10 @@ operands_fault g f occurrences = ranged g (f + 1) (leb (word g (f + 1)) last_ope
 abbrev pub function_words : List ℕ → ℕ → ℕ
 function_words g f = 2 + argument_words (word g (f + 1))
 
--- a number of words where the verdict is good, else none
-unfoldable pub words_if : Verdict → ℕ → ℕ
-words_if Good n = n
-words_if (Refused m) n = 0
+-- a number of words where the verdict is good
+unfoldable pub words_if : Verdict → ℕ → Option ℕ
+words_if (Ok _) n = Some n
+words_if (Err m) n = None
 
 -- n symbols of a right side, from word p on
 unfoldable pub right_fault : List ℕ → ℕ → ℕ → Verdict
@@ -60,27 +61,39 @@ shape_fault g p =
 unfoldable pub ending_fault : List ℕ → ℕ → ℕ → Verdict
 ending_fault g p undefined = unless (eqb undefined 0) (Undefined p) then unless (leb (length g) p) (LeftOver p)
 
--- what reading the function at word f answers, and how many words it has where the answer is good
-pub record FunctionRead (g : List ℕ) (f occurrences undefined : ℕ) (v : Verdict) (n : ℕ) : Type 0 where
-  pub answers : v ≡ function_from g f occurrences undefined
-  pub words : v ≡ Good → n ≡ function_words g f
-  pub few : n ≤ 6
+-- what reading the function at word f answers: how many words it has where it passes, else its first fault
+abbrev pub FunctionRead : List ℕ → ℕ → ℕ → ℕ → Result ℕ Refusal → Type 0
+FunctionRead g f occurrences undefined (Ok n) = (function_from g f occurrences undefined ≡ Good) × (n ≡ function_words g f) × (n ≤ 6)
+FunctionRead g f occurrences undefined (Err m) = function_from g f occurrences undefined ≡ Refused m
 
--- What reading the functions of the rule at word p answers, and what it hands on where the answer is good: where the next rule starts, and the
--- defining occurrences without a function.
-pub record FunctionsRead (g : List ℕ) (p occurrences defining : ℕ) (v : Verdict) (next undefined : ℕ) : Type 0 where
-  pub answers : v ≡ functions_from g p occurrences defining
-  pub goes : v ≡ Good → next ≡ next_rule g p
-  pub left : v ≡ Good → undefined ≡ undefined_after g p (functions_at g p) defining
+-- What reading the functions of the rule at word p hands on where they pass: where the next rule starts, and the defining occurrences without a
+-- function.
+pub record FunctionsPass (g : List ℕ) (p occurrences defining : ℕ) (rule : Rule) : Type 0 where
+  pub passes : functions_from g p occurrences defining ≡ Good
+  pub goes : rule.next ≡ next_rule g p
+  pub left : rule.undefined ≡ undefined_after g p (functions_at g p) defining
 
--- the same of the rule at word p, or of a part of it that ends with its functions; the next rule is not far
-pub record RuleRead (g : List ℕ) (p : ℕ) (tests v : Verdict) (next undefined : ℕ) : Type 0 where
-  pub answers : v ≡ tests
-  pub goes : v ≡ Good → next ≡ next_rule g p
-  pub left : v ≡ Good → undefined ≡ leaves g p
-  pub near : v ≡ Good → next ≤ p + 394
+abbrev pub FunctionsRead : List ℕ → ℕ → ℕ → ℕ → Result Rule Refusal → Type 0
+FunctionsRead g p occurrences defining (Ok rule) = FunctionsPass g p occurrences defining rule
+FunctionsRead g p occurrences defining (Err m) = functions_from g p occurrences defining ≡ Refused m
 
--- what reading a table answers
-pub record TableRead (g : List ℕ) (v : Verdict) (offsets : List ℕ) : Type 0 where
-  pub answers : v ≡ read_table g
-  pub table : offsets ≡ offsets_for g (read_table g)
+-- the same of the rule at word p, or of a part of it that ends with its functions, by the tests of it; the next rule is not far
+pub record RulePasses (g : List ℕ) (p : ℕ) (tests : Verdict) (rule : Rule) : Type 0 where
+  pub passes : tests ≡ Good
+  pub goes : rule.next ≡ next_rule g p
+  pub left : rule.undefined ≡ leaves g p
+  pub near : rule.next ≤ p + 394
+
+abbrev pub RuleRead : List ℕ → ℕ → Verdict → Result Rule Refusal → Type 0
+RuleRead g p tests (Ok rule) = RulePasses g p tests rule
+RuleRead g p tests (Err m) = tests ≡ Refused m
+
+-- what reading the rules answers, where everything before them passed: the word at which each starts
+abbrev pub RulesRead : List ℕ → Result (List ℕ) Refusal → Type 0
+RulesRead g (Ok offsets) = (read_table g ≡ Good) × (offsets ≡ offsets_for g Good)
+RulesRead g (Err m) = read_table g ≡ Refused m
+
+-- what reading a table answers: these words, with the word at which each rule starts, which the type says; else the refusal
+abbrev pub TableRead : List ℕ → Result Table Refusal → Type 0
+TableRead g (Ok table) = (read_table g ≡ Good) × (table.words.now ≡ g)
+TableRead g (Err m) = read_table g ≡ Refused m

@@ -1,8 +1,7 @@
 // A damaged tree for each refusal of 12 to 18: what is answered, how many values changed, and how many words of rows and plan.
 #![tactic(auto)]
 
-ghost use Rattle.std.specs.Prelude.{◌≤◌, ◌<◌, ◌≡◌, length};
-ghost use Rattle.refused_trees.specs.Changed as counts;
+ghost use Rattle.std.specs.Prelude.{◌≤◌, ◌<◌, ◌≡◌, not, length, count_by};
 
 use samples::{G, TWO_LINES};
 use std::io;
@@ -10,55 +9,15 @@ use std::io;
 // What stands in the buffers before: no value, row or plan word of this grammar is the same.
 const VALUE: i32 = 9;
 
-const ROW: u64 = 18446744073709551615;
+const ROW: u64 = u64::MAX;
 
-const WORD: u16 = 65535;
+const WORD: u16 = u16::MAX;
 
-// What an element adds to the count of those that changed.
-fn one_if(changed: bool) -> u64
-    ensures { counts.One changed result }
+// How many items are another than before.
+fn changed<T: Copy + PartialEq>(items: &[T], before: T) -> usize
+    ensures { result ≡ count_by (λ x. not (T.eq x before)) items.now }
 {
-    if changed { 1 } else { 0 }
-}
-
-// Whether a value is another than before.
-fn other_value(v: i32) -> bool
-    ensures { result ≡ counts.other_value v }
-{
-    if v < VALUE {
-        return true;
-    }
-    VALUE < v
-}
-
-fn values_changed(values: &[i32]) -> u64
-    ensures { result ≡ counts.values_changed values.now }
-{
-    let mut count: u64 = 0;
-    for i in 0..values.len() {
-        count += one_if(other_value(values[i]));
-    }
-    count
-}
-
-fn rows_changed(rows: &[u64]) -> u64
-    ensures { result ≡ counts.changed rows.now 18446744073709551615 }
-{
-    let mut count: u64 = 0;
-    for i in 0..rows.len() {
-        count += one_if(rows[i] != ROW);
-    }
-    count
-}
-
-fn words_changed(plan: &[u16]) -> u64
-    ensures { result ≡ counts.changed plan.now 65535 }
-{
-    let mut count: u64 = 0;
-    for i in 0..plan.len() {
-        count += one_if(plan[i] != WORD);
-    }
-    count
+    items.iter().filter(|x| **x != before).count()
 }
 
 // A run over the first words of this tree with the first of these values; rows and plan have room to spare.
@@ -82,13 +41,12 @@ fn run_part(
         100,
     );
     printing::answer(rt, report)?;
-    printing::word(rt, b" values")?;
-    printing::number(rt, values_changed(values))?;
-    printing::word(rt, b" rows")?;
-    printing::number(rt, rows_changed(&rows))?;
-    printing::word(rt, b" plan")?;
-    printing::number(rt, words_changed(&plan))?;
-    printing::end_line(rt)
+    println!(rt;
+        " values {} rows {} plan {}",
+        changed(values, VALUE),
+        changed(&rows, ROW),
+        changed(&plan, WORD)
+    )
 }
 
 // The tree of two lines with one word changed.

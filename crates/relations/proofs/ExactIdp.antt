@@ -11,7 +11,7 @@ use lib.ListN.{replicate}
 use Rattle.basics.specs.Tests.{◌and◌, ◌or◌, some}
 use Rattle.basics.proofs.TestLaws.{or_left, or_right, or_cases, and_intro, and_left, and_right, some_at, some_find, eq_T, same_test}
 use Rattle.grammar.specs.Limits.{most_attributes}
-use Rattle.grammar.specs.declared.Verdict.TheVariants.{Good}
+use Rattle.grammar.specs.Verdicts.{Good}
 use Rattle.grammar.specs.Reading.{read_table}
 use Rattle.grammar.specs.Table.{symbols, attributes, right_length, symbol_of, occurrence, occurrence_of, position, attribute, rule_counts}
 use Rattle.grammar.specs.WellFormed.{WellFormed}

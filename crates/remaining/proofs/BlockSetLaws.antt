@@ -18,6 +18,7 @@ use Rattle.bits.proofs.ShiftLaws.{field_lt, has_field}
 use Rattle.bits.proofs.BitLaws.{bit_above, bit_below, bit_of_zero, bit_has, number_hasb}
 use Rattle.bits.proofs.CollectLaws.{collect_lt}
 use Rattle.bits.proofs.MemberLaws.{hasb_collect, hasb_below, none_left, no_member}
+use Rattle.grammar.specs.Limits.{most_symbols}
 use Rattle.grammar.specs.Table.{attributes, nonterminal, length_at}
 use Rattle.access.specs.ByPlace.{symbol_from, Shaped}
 use Rattle.access.proofs.Blocks.{block_more, collect_rest, below_small}
@@ -142,11 +143,11 @@ module _ (g : List ℕ) (p : ℕ) where
       ∙ sym (collect_rest (8 * (length_at g p + 1)) 64 (λ o. made_from g p o) (omega (arith, w.shaped.short)) made_past))
 
 -- the lowest eight bits of a child's word
-module _ (g by : List ℕ) (p from : ℕ) where
+module _ (g kept : List ℕ) (p : ℕ) where
   abbrev low_bits : ℕ → ℕ
-  low_bits x = field 0 (word by (from + x))
+  low_bits x = field 0 (word kept x)
 
-  child_bit : (i a : ℕ) → i < length_at g p → a < 8 → bit a (low_bits (symbol_from g p (i + 1))) ≡ number (child_in g by p from (8 * (i + 1) + a))
+  child_bit : (i a : ℕ) → i < length_at g p → a < 8 → bit a (low_bits (symbol_from g p (i + 1))) ≡ number (child_in g kept p (8 * (i + 1) + a))
   unfolding child_in ◌and◌
   child_bit i a h l =
       let place : (8 * (i + 1) + a) / 8 ≡ i + 1 = omega arith in
@@ -154,24 +155,24 @@ module _ (g by : List ℕ) (p from : ℕ) where
       let same : 0 + a ≡ a = omega arith in
       sym (number_hasb a (low_bits (symbol_from g p (i + 1))))
       ∙ ap number
-      (has_field 0 a (word by (from + symbol_from g p (i + 1))) l
-      ∙ (ap (λ (b : ℕ). hasb b (word by (from + symbol_from g p (i + 1)))) same
+      (has_field 0 a (word kept (symbol_from g p (i + 1))) l
+      ∙ (ap (λ (b : ℕ). hasb b (word kept (symbol_from g p (i + 1)))) same
       ∙ sym
-      (ap₂ (λ (j b : ℕ). (leb 1 j and leb j (length_at g p)) and hasb b (word by (from + symbol_from g p j))) place own
-      ∙ ap₂ (λ (t u : Bool). (t and u) and hasb a (word by (from + symbol_from g p (i + 1))))
+      (ap₂ (λ (j b : ℕ). (leb 1 j and leb j (length_at g p)) and hasb b (word kept (symbol_from g p j))) place own
+      ∙ ap₂ (λ (t u : Bool). (t and u) and hasb a (word kept (symbol_from g p (i + 1))))
       (le-leb 1 (i + 1) (omega arith)) (le-leb (i + 1) (length_at g p) (omega arith)))))
 
-  child_past : (b : ℕ) → 8 * (length_at g p + 1) ≤ b → child_in g by p from b ≡ false
+  child_past : (b : ℕ) → 8 * (length_at g p + 1) ≤ b → child_in g kept p b ≡ false
   unfolding child_in ◌and◌
   child_past b h =
-      ap₂ (λ (t u : Bool). (t and u) and hasb (b % 8) (word by (from + symbol_from g p (b / 8))))
+      ap₂ (λ (t u : Bool). (t and u) and hasb (b % 8) (word kept (symbol_from g p (b / 8))))
       (le-leb 1 (b / 8) (omega arith)) (lt-leb (b / 8) (length_at g p) (omega arith))
 
   -- the left side is no child
-  child_none : (b : ℕ) → b < 8 → child_in g by p from b ≡ false
+  child_none : (b : ℕ) → b < 8 → child_in g kept p b ≡ false
   unfolding child_in ◌and◌
   child_none b h =
-      ap (λ (t : Bool). (t and leb (b / 8) (length_at g p)) and hasb (b % 8) (word by (from + symbol_from g p (b / 8))))
+      ap (λ (t : Bool). (t and leb (b / 8) (length_at g p)) and hasb (b % 8) (word kept (symbol_from g p (b / 8))))
       (lt-leb 1 (b / 8) (omega arith))
 
   pub record Calling (end found i : ℕ) : Type 0 where
@@ -179,7 +180,7 @@ module _ (g by : List ℕ) (p from : ℕ) where
     pub inside : i ≤ end
     pub shaped : Shaped g p
     pub tabled : Tabled g p
-    pub found_is : found ≡ collect (8 * (i + 1)) (λ b. child_in g by p from b)
+    pub found_is : found ≡ collect (8 * (i + 1)) (λ b. child_in g kept p b)
 
   pub calling_start : (end : ℕ) → Shaped g p → Tabled g p → end ≡ length_at g p → Calling end 0 0
   calling_start end w tabled e =
@@ -189,24 +190,24 @@ module _ (g by : List ℕ) (p from : ℕ) where
         shaped = w;
         tabled = tabled;
         found_is =
-            sym (no_member (collect 8 (λ b. child_in g by p from b))
+            sym (no_member (collect 8 (λ b. child_in g kept p b))
             (λ b t.
-            let h : b < 8 = hasb_below 8 b (collect 8 (λ b. child_in g by p from b)) (collect_lt 8 _) t in
+            let h : b < 8 = hasb_below 8 b (collect 8 (λ b. child_in g kept p b)) (collect_lt 8 _) t in
             subst (λ (x : Bool). T x) (hasb_collect 8 b _ h ∙ child_none b h) t));
       }
 
   -- the child's word is one of the table
-  pub calling_low : (end found i x : ℕ) → Calling end found i → i < end → x ≡ symbol_from g p (i + 1) → from ≤ 64 → from + x < 96
-  calling_low end found i x w h e l = omega (arith, e, w.tabled (i + 1) (omega (arith, w.end_is)))
+  pub calling_low : (end found i x : ℕ) → Calling end found i → i < end → x ≡ symbol_from g p (i + 1) → x < most_symbols
+  calling_low end found i x w h e = omega (arith, e, w.tabled (i + 1) (omega (arith, w.end_is)))
 
-  pub calling_block : (x there : ℕ) → there ≡ field 0 (get_or by (from + x) 0) → there < 256
-  calling_block x there f = subst⁻¹ (λ (y : ℕ). y < 256) f (field_lt 0 (word by (from + x)))
+  pub calling_block : (x there : ℕ) → there ≡ field 0 (get_or kept x 0) → there < 256
+  calling_block x there f = subst⁻¹ (λ (y : ℕ). y < 256) f (field_lt 0 (word kept x))
 
   pub calling_place : (end found i : ℕ) → Calling end found i → i < end → 8 * (i + 1) ≤ 56
   calling_place end found i w h = omega (arith, w.end_is, w.shaped.short)
 
   pub calling_turn : (end found i x there part next : ℕ) → Calling end found i → i < end → x ≡ symbol_from g p (i + 1)
-      → there ≡ field 0 (get_or by (from + x) 0) → part ≡ raised (8 * (i + 1)) there → next ≡ union part found → Calling end next (i + 1)
+      → there ≡ field 0 (get_or kept x 0) → part ≡ raised (8 * (i + 1)) there → next ≡ union part found → Calling end next (i + 1)
   unfolding raised
   calling_turn end found i x there part next w h e f q n =
       let b : there ≡ low_bits (symbol_from g p (i + 1)) = f ∙ ap (λ (y : ℕ). low_bits y) e in
@@ -218,14 +219,14 @@ module _ (g by : List ℕ) (p from : ℕ) where
         found_is =
             n
             ∙ (ap₂ union (q ∙ ap (λ (y : ℕ). y * 2 ^ (8 * (i + 1))) b) w.found_is
-            ∙ block_more (λ b. child_in g by p from b) (i + 1) (low_bits (symbol_from g p (i + 1)))
-            (field_lt 0 (word by (from + symbol_from g p (i + 1)))) (λ a l. child_bit i a (omega (arith, w.end_is)) l));
+            ∙ block_more (λ b. child_in g kept p b) (i + 1) (low_bits (symbol_from g p (i + 1)))
+            (field_lt 0 (word kept (symbol_from g p (i + 1)))) (λ a l. child_bit i a (omega (arith, w.end_is)) l));
       }
 
-  pub calling_finish : (end found i : ℕ) → Calling end found i → end ≤ i → found ≡ children_in g by p from
+  pub calling_finish : (end found i : ℕ) → Calling end found i → end ≤ i → found ≡ children_in g kept p
   unfolding children_in
   calling_finish end found i w h =
       let e : i ≡ length_at g p = omega (arith, w.inside, w.end_is) in
       w.found_is
-      ∙ (ap (λ (k : ℕ). collect (8 * (k + 1)) (λ b. child_in g by p from b)) e
-      ∙ sym (collect_rest (8 * (length_at g p + 1)) 64 (λ b. child_in g by p from b) (omega (arith, w.shaped.short)) child_past))
+      ∙ (ap (λ (k : ℕ). collect (8 * (k + 1)) (λ b. child_in g kept p b)) e
+      ∙ sym (collect_rest (8 * (length_at g p + 1)) 64 (λ b. child_in g kept p b) (omega (arith, w.shaped.short)) child_past))

@@ -40,10 +40,11 @@ use Rattle.bits.proofs.MemberLaws.{
 }
 use Rattle.bits.proofs.RestLaws.{rest_of}
 use Rattle.access.specs.ByPlace.{symbol_from}
+use Rattle.remaining.specs.declared.ByVisit.{ByVisit as Kept}
 use Rattle.remaining.specs.RuleSets.{synthesized_mask, FewLeaves, leave_free, others, leave_ready, ready_leaves}
 use Rattle.remaining.proofs.MemberWalks.{first_member, under_first}
 
-module _ (g by : List ℕ) (p computes calls leaves waiting : ℕ) where
+module _ (g : List ℕ) (by : Kept) (p computes calls leaves waiting : ℕ) where
   -- a leave that is left and ready
   pub leave_ready_at : (b : ℕ) → T (hasb b (ready_leaves g by p computes calls leaves waiting))
       → (b < 64) × T (hasb b leaves) × T (leave_ready g by p computes calls leaves waiting b)

@@ -13,6 +13,7 @@ use Rattle.bits.specs.Bit.{remove, union, minus, raised, field}
 use Rattle.grammar.specs.Limits.{most_symbols}
 use Rattle.access.specs.ByPlace.{symbol_from, definings_at}
 use Rattle.remaining.specs.Remaining.{Done}
+use Rattle.remaining.specs.declared.ByVisit.{ByVisit as Kept}
 use Rattle.remaining.specs.RuleSets.{
   inherited_mask,
   synthesized_mask,
@@ -26,8 +27,8 @@ use Rattle.remaining.specs.RuleSets.{
   wanted_next,
 }
 
-pub started_by : (g by : List ℕ) (p x c v l m d w q : ℕ) → x ≡ symbol_from g p 0 → c ≡ definings_at g p → v ≡ children_in g by p 64 → l ≡ visits_in by x
-    → m ≡ occurrences_from g p → d ≡ inherited_mask by x 0 → w ≡ minus m d → q ≡ children_in g by p 0 → Started g by p c v l w q
+pub started_by : (g : List ℕ) (by : Kept) (p x c v l m d w q : ℕ) → x ≡ symbol_from g p 0 → c ≡ definings_at g p → v ≡ children_in g by.visits p → l ≡ visits_in by x
+    → m ≡ occurrences_from g p → d ≡ inherited_mask by x 0 → w ≡ minus m d → q ≡ children_in g by.inherited p → Started g by p c v l w q
 unfolding occurrences_from
 started_by g by p x c v l m d w q e f h k i j z n =
     record {
@@ -42,18 +43,18 @@ started_by g by p x c v l m d w q e f h k i j z n =
 pub left_low : (g : List ℕ) (p x : ℕ) → Tabled g p → x ≡ symbol_from g p 0 → x < most_symbols
 left_low g p x tabled e = omega (arith, e, tabled 0 (omega arith))
 
-up_by : (g by : List ℕ) (p b x up part w r : ℕ) → x ≡ symbol_from g p (b / 8) → up ≡ synthesized_mask by x (b % 8) → part ≡ raised (8 * (b / 8)) up
+up_by : (g : List ℕ) (by : Kept) (p b x up part w r : ℕ) → x ≡ symbol_from g p (b / 8) → up ≡ synthesized_mask by x (b % 8) → part ≡ raised (8 * (b / 8)) up
     → r ≡ minus w part → r ≡ minus w (handed_up g by p b)
 unfolding handed_up
 up_by g by p b x up part w r e f h q =
     q ∙ ap (minus w) (h ∙ ap (raised (8 * (b / 8))) (f ∙ ap (λ (y : ℕ). synthesized_mask by y (b % 8)) e))
 
-down_by : (g by : List ℕ) (p b x down w r : ℕ) → x ≡ symbol_from g p 0 → down ≡ inherited_mask by x (b + 1) → r ≡ minus w down
+down_by : (g : List ℕ) (by : Kept) (p b x down w r : ℕ) → x ≡ symbol_from g p 0 → down ≡ inherited_mask by x (b + 1) → r ≡ minus w down
     → r ≡ minus w (handed_down g by p b)
 unfolding handed_down
 down_by g by p b x down w r e f q = q ∙ ap (minus w) (f ∙ ap (λ (y : ℕ). inherited_mask by y (b + 1)) e)
 
-wanted_by : (g by : List ℕ) (p b x down child others part wanted r : ℕ) → x ≡ symbol_from g p (b / 8) → down ≡ inherited_mask by x (b % 8 + 1)
+wanted_by : (g : List ℕ) (by : Kept) (p b x down child others part wanted r : ℕ) → x ≡ symbol_from g p (b / 8) → down ≡ inherited_mask by x (b % 8 + 1)
     → child ≡ raised (8 * (b / 8)) 255 → others ≡ minus wanted child → part ≡ raised (8 * (b / 8)) down → r ≡ union others part
     → r ≡ wanted_next g by p b wanted
 unfolding wanted_next
@@ -61,7 +62,7 @@ wanted_by g by p b x down child others part wanted r e f h q k n =
     n ∙ ap₂ union (q ∙ ap (minus wanted) h) (k ∙ ap (raised (8 * (b / 8))) (f ∙ ap (λ (y : ℕ). inherited_mask by y (b % 8 + 1)) e))
 
 -- what is answered after a visit, and after a leave
-pub visit_answer : (g by : List ℕ) (p b x up down child others up_part down_part c v v' l w w' d d' : ℕ) → x ≡ symbol_from g p (b / 8)
+pub visit_answer : (g : List ℕ) (by : Kept) (p b x up down child others up_part down_part c v v' l w w' d d' : ℕ) → x ≡ symbol_from g p (b / 8)
     → up ≡ synthesized_mask by x (b % 8) → down ≡ inherited_mask by x (b % 8 + 1) → child ≡ raised (8 * (b / 8)) 255 → others ≡ minus d child
     → v' ≡ remove b v → up_part ≡ raised (8 * (b / 8)) up → w' ≡ minus w up_part → down_part ≡ raised (8 * (b / 8)) down → d' ≡ union others down_part
     → Done (64 + b) c v' l w' d' (64 + b) c (remove b v) l (minus w (handed_up g by p b)) (wanted_next g by p b d)
@@ -75,7 +76,7 @@ visit_answer g by p b x up down child others up_part down_part c v v' l w w' d d
       wanted_are = wanted_by g by p b x down child others down_part d d' e h k i n z;
     }
 
-pub leave_answer : (g by : List ℕ) (p b x down c v l l' w r d : ℕ) → x ≡ symbol_from g p 0 → down ≡ inherited_mask by x (b + 1) → l' ≡ remove b l
+pub leave_answer : (g : List ℕ) (by : Kept) (p b x down c v l l' w r d : ℕ) → x ≡ symbol_from g p 0 → down ≡ inherited_mask by x (b + 1) → l' ≡ remove b l
     → r ≡ minus w down → Done (128 + b) c v l' r d (128 + b) c v (remove b l) (minus w (handed_down g by p b)) d
 leave_answer g by p b x down c v l l' w r d e f q k =
     record {
@@ -88,15 +89,15 @@ leave_answer g by p b x down c v l l' w r d e f q k =
     }
 
 -- the eight places of a visit in a symbol's word
-pub inherited_by : (by : List ℕ) (x n r : ℕ) → r ≡ field (8 * n) (get_or by x 0) → r ≡ inherited_mask by x n
+pub inherited_by : (by : Kept) (x n r : ℕ) → r ≡ field (8 * n) (get_or by.inherited x 0) → r ≡ inherited_mask by x n
 unfolding inherited_mask
 inherited_by by x n r e = e
 
-pub synthesized_by : (by : List ℕ) (x n r : ℕ) → r ≡ field (8 * n) (get_or by (32 + x) 0) → r ≡ synthesized_mask by x n
+pub synthesized_by : (by : Kept) (x n r : ℕ) → r ≡ field (8 * n) (get_or by.synthesized x 0) → r ≡ synthesized_mask by x n
 unfolding synthesized_mask
 synthesized_by by x n r e = e
 
-pub visits_by_table : (by : List ℕ) (x r : ℕ) → r ≡ get_or by (64 + x) 0 → r ≡ visits_in by x
+pub visits_by_table : (by : Kept) (x r : ℕ) → r ≡ get_or by.visits x 0 → r ≡ visits_in by x
 unfolding visits_in
 visits_by_table by x r e = e
 

@@ -1,7 +1,7 @@
 -- The masks by their members: which attributes are in a set, which occurrences a visit or a leave makes available, which visits are ready.
 -- Assumes nothing.
 use Prim.Native.Nat.{ℕ, ◌+◌, ◌*◌, ◌-◌, ◌/◌, ◌%◌, ◌≤◌, ◌<◌}
-use mathlib.Core.Path.{◌≡◌, refl, sym, ◌∙◌, ap, subst, subst⁻¹}
+use mathlib.Core.Path.{◌≡◌, refl, ◌∙◌, ap, subst, subst⁻¹}
 use mathlib.Core.Logic.{⊎_elim}
 use mathlib.Core.Bool.{Bool}
 use mathlib.Core.List.{List}
@@ -14,10 +14,10 @@ use Rattle.bits.proofs.CollectLaws.{collect_lt}
 use Rattle.bits.proofs.ShiftLaws.{field_lt, has_field, has_raised, raised_low}
 use Rattle.bits.proofs.MemberLaws.{hasb_collect, hasb_below, none_left, no_member, common_both, both_common, minus_both, both_minus}
 use Rattle.basics.proofs.TestLaws.{and_intro, and_left, and_right, eq_T, true_T, below_or_not}
-use Rattle.grammar.specs.Limits.{most_symbols}
 use Rattle.grammar.specs.Table.{symbols}
 use Rattle.sets.specs.Visits.{set_number, half_up, visits}
 use Rattle.access.specs.ByPlace.{symbol_from}
+use Rattle.remaining.specs.declared.ByVisit.{ByVisit as Kept}
 use Rattle.remaining.specs.RuleSets.{
   part_by_visit,
   ByVisit,
@@ -34,11 +34,11 @@ use Rattle.remaining.specs.RuleSets.{
 use Rattle.remaining.proofs.PartLaws.{set_within, part_at_law, at_part}
 
 -- the table has symbol x
-pub record Seen (s by : List ℕ) (x : ℕ) : Type 0 where
-  pub even : word by x ≡ part_by_visit s x 0
-  pub odd : word by (most_symbols + x) ≡ part_by_visit s x 1
+pub record Seen (s : List ℕ) (by : Kept) (x : ℕ) : Type 0 where
+  pub even : word by.inherited x ≡ part_by_visit s x 0
+  pub odd : word by.synthesized x ≡ part_by_visit s x 1
 
-pub seen_symbol : (g s by : List ℕ) (x : ℕ) → ByVisit g s by → x < symbols g → Seen s by x
+pub seen_symbol : (g s : List ℕ) (by : Kept) (x : ℕ) → ByVisit g s by → x < symbols g → Seen s by x
 seen_symbol g s by x w h = record { even = w.even x h; odd = w.odd x h }
 
 -- attribute a in a word of a symbol's attributes by visit
@@ -61,26 +61,26 @@ module _ (s : List ℕ) (x odd word n : ℕ) (is : word ≡ part_by_visit s x od
       (at_part s x odd (8 * n + a) a (omega arith) e (omega (arith, f)))))
 
 -- an attribute is a member exactly where it is in the set of the visit
-module _ (s by : List ℕ) (x n : ℕ) (seen : Seen s by x) (l : n < 8) where
+module _ (s : List ℕ) (by : Kept) (x n : ℕ) (seen : Seen s by x) (l : n < 8) where
   pub in_inherited : n ≤ visits s x → (a : ℕ) → T (hasb a (inherited_mask by x n)) → (a < 8) × (set_number s x a ≡ 2 * (visits s x + 1 - (n + 1)))
   unfolding inherited_mask
   in_inherited h a t =
-      let k = in_part s x 0 (word by x) n seen.even l a t in
+      let k = in_part s x 0 (word by.inherited x) n seen.even l a t in
       (k.0, omega (arith, k.1, k.2, set_within s x a k.0))
 
   pub inherited_in : n ≤ visits s x → (a : ℕ) → a < 8 → set_number s x a ≡ 2 * (visits s x + 1 - (n + 1)) → T (hasb a (inherited_mask by x n))
   unfolding inherited_mask
-  inherited_in h a k e = part_in s x 0 (word by x) n seen.even l a k (omega (arith, e)) (omega (arith, e))
+  inherited_in h a k e = part_in s x 0 (word by.inherited x) n seen.even l a k (omega (arith, e)) (omega (arith, e))
 
   pub in_synthesized : n < visits s x → (a : ℕ) → T (hasb a (synthesized_mask by x n)) → (a < 8) × (set_number s x a ≡ 2 * (visits s x + 1 - (n + 1)) - 1)
   unfolding synthesized_mask
   in_synthesized h a t =
-      let k = in_part s x 1 (word by (most_symbols + x)) n seen.odd l a t in
+      let k = in_part s x 1 (word by.synthesized x) n seen.odd l a t in
       (k.0, omega (arith, k.1, k.2, set_within s x a k.0))
 
   pub synthesized_in : n < visits s x → (a : ℕ) → a < 8 → set_number s x a ≡ 2 * (visits s x + 1 - (n + 1)) - 1 → T (hasb a (synthesized_mask by x n))
   unfolding synthesized_mask
-  synthesized_in h a k e = part_in s x 1 (word by (most_symbols + x)) n seen.odd l a k (omega (arith, e)) (omega (arith, e))
+  synthesized_in h a k e = part_in s x 1 (word by.synthesized x) n seen.odd l a k (omega (arith, e)) (omega (arith, e))
 
 -- a set of attributes at position i
 pub raised_at : (mask i o : ℕ) → mask < 256 → T (hasb o (raised (8 * i) mask)) → (o / 8 ≡ i) × T (hasb (o % 8) mask)
@@ -99,31 +99,29 @@ at_raised mask i o q t =
     subst⁻¹ (λ (b : Bool). T b) (has_raised (8 * i) o mask (omega arith)) (subst⁻¹ (λ (a : ℕ). T (hasb a mask)) f t)
 
 -- those of the first visit are the lowest eight bits
-pub first_inherited : (by : List ℕ) (x a : ℕ) → a < 8
-    → (T (hasb a (inherited_mask by x 0)) → T (hasb a (word by (0 + x)))) × (T (hasb a (word by (0 + x))) → T (hasb a (inherited_mask by x 0)))
+pub first_inherited : (by : Kept) (x a : ℕ) → a < 8
+    → (T (hasb a (inherited_mask by x 0)) → T (hasb a (word by.inherited x))) × (T (hasb a (word by.inherited x)) → T (hasb a (inherited_mask by x 0)))
 unfolding inherited_mask
 first_inherited by x a h =
     let none : 8 * 0 + a ≡ a = omega arith in
-    let same : 0 + x ≡ x = omega arith in
-    let e : hasb a (field (8 * 0) (word by x)) ≡ hasb a (word by (0 + x)) =
-    has_field (8 * 0) a (word by x) h
-    ∙ (ap (λ (b : ℕ). hasb b (word by x)) none ∙ sym (ap (λ (y : ℕ). hasb a (word by y)) same)) in
+    let e : hasb a (field (8 * 0) (word by.inherited x)) ≡ hasb a (word by.inherited x) =
+    has_field (8 * 0) a (word by.inherited x) h ∙ ap (λ (b : ℕ). hasb b (word by.inherited x)) none in
     (λ t. subst (λ (b : Bool). T b) e t, λ t. subst⁻¹ (λ (b : Bool). T b) e t)
 
-pub inherited_small : (by : List ℕ) (x n mask : ℕ) → mask ≡ inherited_mask by x n → mask < 256
+pub inherited_small : (by : Kept) (x n mask : ℕ) → mask ≡ inherited_mask by x n → mask < 256
 unfolding inherited_mask
-inherited_small by x n mask e = subst⁻¹ (λ (y : ℕ). y < 256) e (field_lt (8 * n) (word by x))
+inherited_small by x n mask e = subst⁻¹ (λ (y : ℕ). y < 256) e (field_lt (8 * n) (word by.inherited x))
 
-pub synthesized_small : (by : List ℕ) (x n mask : ℕ) → mask ≡ synthesized_mask by x n → mask < 256
+pub synthesized_small : (by : Kept) (x n mask : ℕ) → mask ≡ synthesized_mask by x n → mask < 256
 unfolding synthesized_mask
-synthesized_small by x n mask e = subst⁻¹ (λ (y : ℕ). y < 256) e (field_lt (8 * n) (word by (most_symbols + x)))
+synthesized_small by x n mask e = subst⁻¹ (λ (y : ℕ). y < 256) e (field_lt (8 * n) (word by.synthesized x))
 
 -- the table has the symbol of each of these visits, and it has so many
-abbrev pub SeenVisits : List ℕ → List ℕ → List ℕ → ℕ → ℕ → Type 0
+abbrev pub SeenVisits : List ℕ → List ℕ → Kept → ℕ → ℕ → Type 0
 SeenVisits g s by p left =
     (b : ℕ) → b < 64 → T (hasb b left) → Seen s by (symbol_from g p (b / 8)) × (b % 8 < visits s (symbol_from g p (b / 8)))
 
-module _ (g s by : List ℕ) (p : ℕ) where
+module _ (g s : List ℕ) (by : Kept) (p : ℕ) where
   -- what visit b makes available stands at its child and in the odd set
   module _ (b : ℕ) (seen : Seen s by (symbol_from g p (b / 8))) (inside : b % 8 < visits s (symbol_from g p (b / 8))) where
     pub up_at : (o : ℕ) → T (hasb o (handed_up g by p b))
@@ -197,7 +195,7 @@ module _ (left b : ℕ) (h : b < 64) where
       next (b % 8 - 1) (omega arith) (subst (λ (x : ℕ). T (hasb x left)) e y))
       (λ i. rising.apart b h t (omega arith) y) (below_or_not 0 (b % 8))))
 
-module _ (g s by : List ℕ) (p left waiting wanted : ℕ) (seen : SeenVisits g s by p left) (rising : Rising left) (along : Along g by p left wanted) where
+module _ (g s : List ℕ) (by : Kept) (p left waiting wanted : ℕ) (seen : SeenVisits g s by p left) (rising : Rising left) (along : Along g by p left wanted) where
   -- the visits that are ready
   pub ready_at : (b : ℕ) → T (hasb b (ready_visits left (common wanted waiting))) → (b < 64) × T (hasb b left) × Passes g s p left waiting b
   unfolding ready_visits visit_ready

@@ -7,9 +7,12 @@ use mathlib.Core.Bool.{Bool, cond}
 use mathlib.Core.List.{List}
 use native.Mathlib.Omega.{arith}
 use native.Mathlib.Numerals.{add-one}
+use native.Mathlib.Nat.{max_comm}
 use lib.Dec.{T, eqb, eqb→eq, T_not}
 use lib.ListN.{get_or, length, set, length-set}
 use lib.Seq.{get_or-set_same, get_or-set_other}
+use borrow.Author.Rules.{rules}
+use Rattle.std.specs.Ordering.{ord_max, nat_cmp}
 use Rattle.basics.specs.Lists.{word}
 use Rattle.basics.proofs.TestLaws.{and_intro, and_left, and_right, tested, same_test, below_or_not, eq_T, chosen, passed_over}
 use Rattle.bits.specs.Bit.{hasb, insert}
@@ -20,6 +23,7 @@ use Rattle.grammar.specs.Limits.{most_symbols}
 use Rattle.grammar.specs.Table.{symbols}
 use Rattle.sets.specs.Visits.{set_number, half_up, highest, last_set, visits}
 use Rattle.sets.proofs.Visits.{number_to_last}
+use Rattle.remaining.specs.declared.ByVisit.{ByVisit as Kept}
 use Rattle.remaining.specs.RuleSets.{part_at, part_by_visit, symbol_visits, ByVisit, FewVisits}
 
 -- no set is past the visits of its symbol
@@ -129,82 +133,78 @@ module _ (s : List ℕ) (x odd : ℕ) where
       (λ t. subst⁻¹ (λ (b : Bool). T b) (hasb_collect 64 j _ l) (w.found j t).1)
       (λ t. w.all j l (omega arith) (subst (λ (b : Bool). T b) (hasb_collect 64 j _ l) t)))
 
--- words at places of their own: one more is written, or another word
-grows : (by : List ℕ) (at f : ℕ → ℕ) (x m : ℕ) → ((y : ℕ) → y < x → at y ≡ at x → ⊥) → at x < length by → m ≡ f x
-    → ((y : ℕ) → y < x → word by (at y) ≡ f y) → (y : ℕ) → y < x + 1 → word (set by (at x) m) (at y) ≡ f y
-grows by at f x m apart h e is y l =
-    ⊎_elim (λ q. get_or-set_other by (at x) (at y) m 0 (apart y q) ∙ is y q)
+-- one symbol's word more is written
+grows : (kept : List ℕ) (f : ℕ → ℕ) (x m : ℕ) → x < length kept → m ≡ f x → ((y : ℕ) → y < x → word kept y ≡ f y)
+    → (y : ℕ) → y < x + 1 → word (set kept x m) y ≡ f y
+grows kept f x m h e is y l =
+    ⊎_elim (λ q. get_or-set_other kept x y m 0 (λ z. omega arith) ∙ is y q)
     (λ q.
     let z : y ≡ x = omega arith in
-    subst⁻¹ (λ (k : ℕ). word (set by (at x) m) (at k) ≡ f k) z (get_or-set_same by (at x) m 0 h ∙ e))
+    subst⁻¹ (λ (k : ℕ). word (set kept x m) k ≡ f k) z (get_or-set_same kept x m 0 h ∙ e))
     (below_or_not y x)
 
-stays : (by : List ℕ) (at f : ℕ → ℕ) (n i m : ℕ) → ((y : ℕ) → y < n → at y ≡ i → ⊥)
-    → ((y : ℕ) → y < n → word by (at y) ≡ f y) → (y : ℕ) → y < n → word (set by i m) (at y) ≡ f y
-stays by at f n i m apart is y l = get_or-set_other by i (at y) m 0 (apart y l) ∙ is y l
-
 -- the table has the words of the first x symbols
-pub record Tabling (g s by : List ℕ) (n x : ℕ) : Type 0 where
+pub record Tabling (g s : List ℕ) (by : Kept) (n x : ℕ) : Type 0 where
   pub count_is : n ≡ symbols g
   pub inside : x ≤ n
   pub fits : n ≤ most_symbols
   pub few : FewVisits s
-  pub size : length by ≡ 96
-  pub even : (y : ℕ) → y < x → word by y ≡ part_by_visit s y 0
-  pub odd : (y : ℕ) → y < x → word by (32 + y) ≡ part_by_visit s y 1
-  pub calls : (y : ℕ) → y < x → word by (64 + y) ≡ symbol_visits g y (visits s y)
+  pub even_size : length by.inherited ≡ most_symbols
+  pub odd_size : length by.synthesized ≡ most_symbols
+  pub calls_size : length by.visits ≡ most_symbols
+  pub even : (y : ℕ) → y < x → word by.inherited y ≡ part_by_visit s y 0
+  pub odd : (y : ℕ) → y < x → word by.synthesized y ≡ part_by_visit s y 1
+  pub calls : (y : ℕ) → y < x → word by.visits y ≡ symbol_visits g y (visits s y)
 
 module _ (g s : List ℕ) where
-  pub tabling_start : (by : List ℕ) (n : ℕ) → symbols g ≤ most_symbols → FewVisits s → n ≡ symbols g → length by ≡ 96 → Tabling g s by n 0
-  tabling_start by n h few e z =
+  pub tabling_start : (by : Kept) (n : ℕ) → symbols g ≤ most_symbols → FewVisits s → n ≡ symbols g → length by.inherited ≡ most_symbols
+      → length by.synthesized ≡ most_symbols → length by.visits ≡ most_symbols → Tabling g s by n 0
+  tabling_start by n h few e a b c =
       record {
         count_is = e;
         inside = omega arith;
         fits = omega arith;
         few = few;
-        size = z;
+        even_size = a;
+        odd_size = b;
+        calls_size = c;
         even = λ y l. absurd (omega arith);
         odd = λ y l. absurd (omega arith);
         calls = λ y l. absurd (omega arith);
       }
 
-  pub tabling_few : (by : List ℕ) (n x v : ℕ) → Tabling g s by n x → v ≡ visits s x → v ≤ 5
+  pub tabling_few : (by : Kept) (n x v : ℕ) → Tabling g s by n x → v ≡ visits s x → v ≤ 5
   tabling_few by n x v w e = omega (arith, w.few x)
 
-  pub tabling_turn : (by : List ℕ) (n x v i j k : ℕ) → Tabling g s by n x → x < n → v ≡ visits s x → i ≡ part_by_visit s x 0 → j ≡ part_by_visit s x 1
-      → k ≡ symbol_visits g x v → Tabling g s (set (set (set by x i) (32 + x) j) (64 + x) k) n (x + 1)
+  pub tabling_turn : (by : Kept) (n x v i j k : ℕ) → Tabling g s by n x → x < n → v ≡ visits s x → i ≡ part_by_visit s x 0 → j ≡ part_by_visit s x 1
+      → k ≡ symbol_visits g x v
+      → Tabling g s (record { inherited = set by.inherited x i; synthesized = set by.synthesized x j; visits = set by.visits x k }) n (x + 1)
   tabling_turn by n x v i j k w h z e f q =
-      let one : List ℕ = set by x i in
-      let two : List ℕ = set one (32 + x) j in
-      let one_long : length one ≡ 96 = length-set by x i ∙ w.size in
-      let two_long : length two ≡ 96 = length-set one (32 + x) j ∙ one_long in
       record {
         count_is = w.count_is;
         inside = omega arith;
         fits = w.fits;
         few = w.few;
-        size = length-set two (64 + x) k ∙ two_long;
-        even =
-            stays two (λ y. y) (λ y. part_by_visit s y 0) (x + 1) (64 + x) k (λ y l d. omega (arith, w.fits))
-            (stays one (λ y. y) (λ y. part_by_visit s y 0) (x + 1) (32 + x) j (λ y l d. omega (arith, w.fits))
-            (grows by (λ y. y) (λ y. part_by_visit s y 0) x i (λ y l d. omega arith) (omega (arith, w.size, w.fits)) e w.even));
-        odd =
-            stays two (λ y. 32 + y) (λ y. part_by_visit s y 1) (x + 1) (64 + x) k (λ y l d. omega (arith, w.fits))
-            (grows one (λ y. 32 + y) (λ y. part_by_visit s y 1) x j (λ y l d. omega arith) (omega (arith, one_long, w.fits)) f
-            (stays by (λ y. 32 + y) (λ y. part_by_visit s y 1) x x i (λ y l d. omega (arith, w.fits)) w.odd));
+        even_size = length-set by.inherited x i ∙ w.even_size;
+        odd_size = length-set by.synthesized x j ∙ w.odd_size;
+        calls_size = length-set by.visits x k ∙ w.calls_size;
+        even = grows by.inherited (λ y. part_by_visit s y 0) x i (omega (arith, w.even_size, w.fits)) e w.even;
+        odd = grows by.synthesized (λ y. part_by_visit s y 1) x j (omega (arith, w.odd_size, w.fits)) f w.odd;
         calls =
-            grows two (λ y. 64 + y) (λ y. symbol_visits g y (visits s y)) x k (λ y l d. omega arith) (omega (arith, two_long, w.fits)) (q ∙ ap (symbol_visits g x) z)
-            (stays one (λ y. 64 + y) (λ y. symbol_visits g y (visits s y)) x (32 + x) j (λ y l d. omega (arith, w.fits))
-            (stays by (λ y. 64 + y) (λ y. symbol_visits g y (visits s y)) x x i (λ y l d. omega (arith, w.fits)) w.calls));
+            grows by.visits (λ y. symbol_visits g y (visits s y)) x k (omega (arith, w.calls_size, w.fits)) (q ∙ ap (symbol_visits g x) z) w.calls;
       }
 
-  pub tabling_finish : (by : List ℕ) (n x : ℕ) → Tabling g s by n x → n ≤ x → ByVisit g s by
+  pub tabling_finish : (by : Kept) (n x : ℕ) → Tabling g s by n x → n ≤ x → ByVisit g s by
   tabling_finish by n x w h =
       record {
         even = λ y l. w.even y (omega (arith, w.count_is));
         odd = λ y l. w.odd y (omega (arith, w.count_is));
         calls = λ y l. w.calls y (omega (arith, w.count_is));
       }
+
+-- `max` of std at numbers
+pub larger_is : (a b r : ℕ) → r ≡ ord_max nat_cmp a b → r ≡ max a b
+larger_is a b r e = search rules
 
 pub record Climbing (s : List ℕ) (x last a : ℕ) : Type 0 where
   pub inside : a ≤ 8
@@ -231,6 +231,6 @@ unfolding last_set
 climbing_finish s x last a w h =
     let e : a ≡ 8 = omega (arith, w.inside) in w.last_is ∙ ap (λ (n : ℕ). highest n (λ a. set_number s x a)) e
 
-pub visits_by : (s : List ℕ) (x last r : ℕ) → last ≡ last_set s x → r ≡ max 1 ((last + 1) / 2) → r ≡ visits s x
+pub visits_by : (s : List ℕ) (x last r : ℕ) → last ≡ last_set s x → r ≡ max ((last + 1) / 2) 1 → r ≡ visits s x
 unfolding visits
-visits_by s x last r e f = f ∙ ap (λ (k : ℕ). max 1 ((k + 1) / 2)) e
+visits_by s x last r e f = f ∙ (ap (λ (k : ℕ). max ((k + 1) / 2) 1) e ∙ max_comm ((last_set s x + 1) / 2) 1)

@@ -43,16 +43,17 @@ module _ (visits₀ lacking : ℕ) where
     pub free : (b o : ℕ) → T (hasb b ready) → T (hasb o lacking) → T (not (hasb o left)) → o / 8 ≡ b / 8 → ⊥
     pub all : (b : ℕ) → T (hasb b (minus visits₀ (one_up visits₀))) → ((o : ℕ) → T (hasb o lacking) → o / 8 ≡ b / 8 → ⊥) → T (hasb b ready)
 
-  pub clearing_start : (up ready : ℕ) → Fits w64 visits₀ → up ≡ one_up visits₀ → ready ≡ minus visits₀ up → Clearing ready lacking
-  clearing_start up ready h e f =
-      subst⁻¹ (λ (x : ℕ). Clearing x lacking) (f ∙ ap (minus visits₀) e)
+  pub clearing_start : (up ready left : ℕ) → Fits w64 visits₀ → up ≡ one_up visits₀ → ready ≡ minus visits₀ up → left ≡ lacking → Clearing ready left
+  clearing_start up ready left h e f k =
+      subst⁻¹ (λ (y : ℕ). Clearing ready y) k
+      (subst⁻¹ (λ (x : ℕ). Clearing x lacking) (f ∙ ap (minus visits₀) e)
       (record {
         small = minus_lt 64 visits₀ (one_up visits₀) h.fits;
         left_lacks = λ o t. t;
         next = λ b t. t;
         free = λ b o t u n q. T_not (hasb o lacking) n u;
         all = λ b t f. t;
-      })
+      }))
 
   -- the child of the lowest that is left is done
   cleared : (ready left o : ℕ) → Clearing ready left → First left o

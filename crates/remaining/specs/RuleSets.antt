@@ -9,6 +9,7 @@ use Rattle.grammar.specs.Limits.{most_symbols}
 use Rattle.grammar.specs.Table.{symbols, attributes, nonterminal, length_at, position, attribute}
 use Rattle.access.specs.ByPlace.{symbol_from, definings_at}
 use Rattle.sets.specs.Visits.{set_number, half_up, visits}
+use Rattle.remaining.specs.declared.ByVisit.{ByVisit as Kept}
 
 -- "Set k belongs to visit v + 1 - (k/2 rounded up)": attribute j % 8 of symbol x is in an even (0) or odd (1) set, of visit j / 8 + 1
 unfoldable pub part_at : List ℕ → ℕ → ℕ → ℕ → Bool
@@ -27,28 +28,27 @@ unfoldable pub made_attributes : List ℕ → ℕ → ℕ
 made_attributes g x = cond (nonterminal g x) (below (attributes g x)) 0
 
 -- a table of this for every symbol
-pub record ByVisit (g s by : List ℕ) : Type 0 where
-  pub even : (x : ℕ) → x < symbols g → word by x ≡ part_by_visit s x 0
-  pub odd : (x : ℕ) → x < symbols g → word by (most_symbols + x) ≡ part_by_visit s x 1
-  pub calls : (x : ℕ) → x < symbols g → word by (2 * most_symbols + x) ≡ symbol_visits g x (visits s x)
+pub record ByVisit (g s : List ℕ) (by : Kept) : Type 0 where
+  pub even : (x : ℕ) → x < symbols g → word by.inherited x ≡ part_by_visit s x 0
+  pub odd : (x : ℕ) → x < symbols g → word by.synthesized x ≡ part_by_visit s x 1
+  pub calls : (x : ℕ) → x < symbols g → word by.visits x ≡ symbol_visits g x (visits s x)
 
 -- in such a table the inherited attributes of a visit of symbol x, counted from 0, the synthesized ones, and all its visits
-unfoldable pub inherited_mask : List ℕ → ℕ → ℕ → ℕ
-inherited_mask by x n = field (8 * n) (word by x)
+unfoldable pub inherited_mask : Kept → ℕ → ℕ → ℕ
+inherited_mask by x n = field (8 * n) (word by.inherited x)
 
-unfoldable pub synthesized_mask : List ℕ → ℕ → ℕ → ℕ
-synthesized_mask by x n = field (8 * n) (word by (most_symbols + x))
+unfoldable pub synthesized_mask : Kept → ℕ → ℕ → ℕ
+synthesized_mask by x n = field (8 * n) (word by.synthesized x)
 
-unfoldable pub visits_in : List ℕ → ℕ → ℕ
-visits_in by x = word by (2 * most_symbols + x)
+unfoldable pub visits_in : Kept → ℕ → ℕ
+visits_in by x = word by.visits x
 
--- b / 8 is a child of the rule at word p, and b % 8 a member of the word that the table has for it from one word on; and all such b
-unfoldable pub child_in : List ℕ → List ℕ → ℕ → ℕ → ℕ → Bool
-child_in g by p from b =
-    (leb 1 (b / 8) and leb (b / 8) (length_at g p)) and hasb (b % 8) (word by (from + symbol_from g p (b / 8)))
+-- b / 8 is a child of the rule at word p, and b % 8 a member of the word that is kept of it; and all such b
+unfoldable pub child_in : List ℕ → List ℕ → ℕ → ℕ → Bool
+child_in g kept p b = (leb 1 (b / 8) and leb (b / 8) (length_at g p)) and hasb (b % 8) (word kept (symbol_from g p (b / 8)))
 
-unfoldable pub children_in : List ℕ → List ℕ → ℕ → ℕ → ℕ
-children_in g by p from = collect 64 (λ b. child_in g by p from b)
+unfoldable pub children_in : List ℕ → List ℕ → ℕ → ℕ
+children_in g kept p = collect 64 (λ b. child_in g kept p b)
 
 -- o is the occurrence of a nonterminal in the rule at word p; and all such o
 unfoldable pub made_from : List ℕ → ℕ → ℕ → Bool
@@ -69,22 +69,22 @@ Tabled g p = (i : ℕ) → i ≤ length_at g p → symbol_from g p i < most_symb
 
 -- Before the first action all are left, what waits are the occurrences of nonterminals but for the left side's inherited ones of visit 1, and
 -- the first visits want what they take along.
-pub record Started (g by : List ℕ) (p computes left leaves waiting wanted : ℕ) : Type 0 where
+pub record Started (g : List ℕ) (by : Kept) (p computes left leaves waiting wanted : ℕ) : Type 0 where
   pub computes_are : computes ≡ definings_at g p
-  pub visits_are : left ≡ children_in g by p (2 * most_symbols)
+  pub visits_are : left ≡ children_in g by.visits p
   pub leaves_are : leaves ≡ visits_in by (symbol_from g p 0)
   pub waiting_are : waiting ≡ minus (collect 64 (λ o. made_from g p o)) (inherited_mask by (symbol_from g p 0) 0)
-  pub wanted_are : wanted ≡ children_in g by p 0
+  pub wanted_are : wanted ≡ children_in g by.inherited p
 
 -- what visit b of the rule at word p makes available, and what leave b does
-unfoldable pub handed_up : List ℕ → List ℕ → ℕ → ℕ → ℕ
+unfoldable pub handed_up : List ℕ → Kept → ℕ → ℕ → ℕ
 handed_up g by p b = raised (8 * (b / 8)) (synthesized_mask by (symbol_from g p (b / 8)) (b % 8))
 
-unfoldable pub handed_down : List ℕ → List ℕ → ℕ → ℕ → ℕ
+unfoldable pub handed_down : List ℕ → Kept → ℕ → ℕ → ℕ
 handed_down g by p b = inherited_mask by (symbol_from g p 0) (b + 1)
 
 -- what is wanted after visit b: its child's next visit takes along its own
-unfoldable pub wanted_next : List ℕ → List ℕ → ℕ → ℕ → ℕ → ℕ
+unfoldable pub wanted_next : List ℕ → Kept → ℕ → ℕ → ℕ → ℕ
 wanted_next g by p b wanted =
     union (minus wanted (raised (8 * (b / 8)) 255)) (raised (8 * (b / 8)) (inherited_mask by (symbol_from g p (b / 8)) (b % 8 + 1)))
 
@@ -97,7 +97,7 @@ abbrev pub NextVisit : ℕ → ℕ → Type 0
 NextVisit left b = (k : ℕ) → k < b % 8 → T (hasb (8 * (b / 8) + k) left) → ⊥
 
 -- at each child is wanted what its next visit takes along
-pub record Along (g by : List ℕ) (p left wanted : ℕ) : Type 0 where
+pub record Along (g : List ℕ) (by : Kept) (p left wanted : ℕ) : Type 0 where
   pub takes : (b o : ℕ) → b < 64 → T (hasb b left) → NextVisit left b → o / 8 ≡ b / 8 → T (hasb o wanted)
       → T (hasb (o % 8) (inherited_mask by (symbol_from g p (b / 8)) (b % 8)))
   pub taken : (b o : ℕ) → b < 64 → T (hasb b left) → NextVisit left b → o / 8 ≡ b / 8
@@ -125,11 +125,11 @@ unfoldable pub others : ℕ → ℕ → ℕ
 others computes left = collect 64 (λ k. hasb k computes or hasb k left)
 
 -- leave b is ready: it is the lowest, and free
-unfoldable pub leave_ready : List ℕ → List ℕ → ℕ → ℕ → ℕ → ℕ → ℕ → ℕ → Bool
+unfoldable pub leave_ready : List ℕ → Kept → ℕ → ℕ → ℕ → ℕ → ℕ → ℕ → Bool
 leave_ready g by p computes left leaves waiting b =
     leb b (lowest 64 leaves)
     and leave_free (common (synthesized_mask by (symbol_from g p 0) b) waiting) (remove b leaves) (others computes left)
 
 -- the leaves that are ready
-unfoldable pub ready_leaves : List ℕ → List ℕ → ℕ → ℕ → ℕ → ℕ → ℕ → ℕ
+unfoldable pub ready_leaves : List ℕ → Kept → ℕ → ℕ → ℕ → ℕ → ℕ → ℕ
 ready_leaves g by p computes left leaves waiting = collect 64 (λ b. hasb b leaves and leave_ready g by p computes left leaves waiting b)

@@ -2,7 +2,7 @@
 // visit is ready, and what is left after an action. Three sets hold the actions, a fourth the occurrences that wait to be made available.
 #![tactic(auto)]
 
-ghost use Rattle.std.specs.Prelude.{◌≡◌, ◌+◌, ◌*◌, ◌-◌, ◌/◌, ◌%◌, ◌≤◌, ◌<◌, max};
+ghost use Rattle.std.specs.Prelude.{◌≡◌, ◌+◌, ◌*◌, ◌-◌, ◌/◌, ◌%◌, ◌≤◌, ◌<◌};
 ghost use Rattle.bits.specs.Bit as bit;
 ghost use Rattle.grammar.specs.Limits as limits;
 ghost use Rattle.grammar.specs.Table as table;
@@ -11,11 +11,38 @@ ghost use Rattle.sets.specs.Visits as visiting;
 ghost use Rattle.remaining.specs.RuleSets as masks;
 ghost use Rattle.remaining.specs.Remaining as spec;
 
-// What is kept of each symbol by visit: word x has its inherited attributes, those of visit n from bit 8 (n - 1) on, word 32 + x its
-// synthesized ones in the same way, and word 64 + x its visits.
-pub type ByVisit = [u64; 96];
+// What is kept of each symbol x by visit: its inherited attributes, those of visit n from bit 8 (n - 1) on, its synthesized ones in the same way,
+// and its visits.
+#[derive(Clone, Copy)]
+pub struct ByVisit {
+    pub inherited: [u64; 32],
+    pub synthesized: [u64; 32],
+    pub visits: [u64; 32],
+}
 
-// The actions that are left, as bits: a compute by its occurrence, visit n of child i as 8i + (n - 1), leave n as n - 1.
+// An action: a compute by its occurrence, visit n of child i as 8i + (n - 1), leave n as n - 1.
+#[derive(Clone, Copy)]
+pub enum Action {
+    Compute(usize),
+    Visit(usize),
+    Leave(usize),
+}
+
+impl Action {
+    // The word that a plan has for it.
+    pub fn word(self) -> u16
+        requires { spec.number self < 65536 }
+        ensures { result ≡ spec.number self }
+    {
+        match self {
+            Action::Compute(o) => o as u16,
+            Action::Visit(b) => (64 + b) as u16,
+            Action::Leave(b) => (128 + b) as u16,
+        }
+    }
+}
+
+// The actions that are left, as bits.
 // An occurrence waits while an action that makes it available is left; wanted is what the next visit of each child takes along.
 #[derive(Clone, Copy)]
 pub struct State {
@@ -29,17 +56,8 @@ pub struct State {
 // An action, and what is left after it.
 #[derive(Clone, Copy)]
 pub struct Step {
-    pub action: usize,
+    pub action: Action,
     pub state: State,
-}
-
-fn larger(a: usize, b: usize) -> usize
-    ensures { result ≡ max a b }
-{
-    if a < b {
-        return b;
-    }
-    a
 }
 
 // The last set of symbol x.
@@ -50,7 +68,7 @@ fn last_set(sets: &[u16], x: usize) -> usize
 {
     let mut last = 0;
     for a in 0..8usize {
-        last = larger(last, access::word(sets, 8 * x + a));
+        last = last.max(access::word(sets, 8 * x + a));
     }
     last
 }
@@ -61,20 +79,20 @@ pub fn visits_of(sets: &[u16], x: usize) -> usize
     ensures value { result ≡ visiting.visits sets.now x }
     ensures upper_bound { result < 65536 }
 {
-    larger(1, (last_set(sets, x) + 1) / 2)
+    ((last_set(sets, x) + 1) / 2).max(1)
 }
 
-// The attributes of symbol x whose sets are even (0) or odd (1): those of visit n have the places from 8 (n - 1) on.
-fn part_by_visit(sets: &[u16], x: usize, visits: usize, odd: usize) -> u64
+// The attributes of symbol x whose sets are of one parity, even (0) or odd (1): those of visit n have the places from 8 (n - 1) on.
+fn part_by_visit(sets: &[u16], x: usize, visits: usize, parity: usize) -> u64
     requires x_bound { x < 65536 }
     requires visits_value { visits ≡ visiting.visits sets.now x }
     requires visits_bound { visits ≤ 5 }
-    ensures { result ≡ masks.part_by_visit sets.now x odd }
+    ensures { result ≡ masks.part_by_visit sets.now x parity }
 {
     let mut part = 0;
     for a in 0..8usize {
         let k = access::word(sets, 8 * x + a);
-        part = bits::put(part, 8 * (visits - (k + 1) / 2) + a, k % 2 == odd);
+        part = bits::put(part, 8 * (visits - (k + 1) / 2) + a, k % 2 == parity);
     }
     part
 }
@@ -97,12 +115,16 @@ pub fn by_visit(words: &[u16], sets: &[u16]) -> ByVisit
     requires few_visits { masks.FewVisits sets.now }
     ensures { masks.ByVisit words.now sets.now result }
 {
-    let mut by = [0u64; 96];
+    let mut by = ByVisit {
+        inherited: [0; 32],
+        synthesized: [0; 32],
+        visits: [0; 32],
+    };
     for x in 0..access::symbols(words) {
         let visits = visits_of(sets, x);
-        by[x] = part_by_visit(sets, x, visits, 0);
-        by[32 + x] = part_by_visit(sets, x, visits, 1);
-        by[64 + x] = symbol_visits(words, x, visits);
+        by.inherited[x] = part_by_visit(sets, x, visits, 0);
+        by.synthesized[x] = part_by_visit(sets, x, visits, 1);
+        by.visits[x] = symbol_visits(words, x, visits);
     }
     by
 }
@@ -112,7 +134,7 @@ fn inherited_of(by: &ByVisit, x: usize, n: usize) -> u64
     requires { (x < limits.most_symbols) × (n < 8) }
     ensures { result ≡ masks.inherited_mask by.now x n }
 {
-    bits::field(by[x], 8 * n)
+    bits::field(by.inherited[x], 8 * n)
 }
 
 // The synthesized ones, which it makes available.
@@ -120,7 +142,7 @@ fn synthesized_of(by: &ByVisit, x: usize, n: usize) -> u64
     requires { (x < limits.most_symbols) × (n < 8) }
     ensures { result ≡ masks.synthesized_mask by.now x n }
 {
-    bits::field(by[32 + x], 8 * n)
+    bits::field(by.synthesized[x], 8 * n)
 }
 
 // Its visits, counted from 0; a terminal has none.
@@ -128,21 +150,21 @@ fn visits_in(by: &ByVisit, x: usize) -> u64
     requires { x < limits.most_symbols }
     ensures { result ≡ masks.visits_in by.now x }
 {
-    by[64 + x]
+    by.visits[x]
 }
 
-// The lowest eight bits of the words that the table has from one on for the children of the rule at word p: their visits from word 64
-// on, what their first visits take along from word 0 on.
-fn of_children(words: &[u16], p: usize, by: &ByVisit, from: usize) -> u64
-    requires p_bound { (p < 65536) × (from ≤ 64) }
+// The lowest eight bits of the words that are kept of the children of the rule at word p: of their visits all, of their inherited attributes what
+// their first visits take along.
+fn of_children(words: &[u16], p: usize, kept: &[u64; 32]) -> u64
+    requires p_bound { p < 65536 }
     requires shaped { places.Shaped words.now p }
     requires tabled { masks.Tabled words.now p }
-    ensures { result ≡ masks.children_in words.now by.now p from }
+    ensures { result ≡ masks.children_in words.now kept.now p }
 {
     let n = access::right_length(words, p);
     let mut found = 0;
     for i in 0..n {
-        let child = bits::field(by[from + access::symbol_of(words, p, i + 1)], 0);
+        let child = bits::field(kept[access::symbol_of(words, p, i + 1)], 0);
         found = bits::union(bits::raised(child, 8 * (i + 1)), found);
     }
     found
@@ -151,7 +173,7 @@ fn of_children(words: &[u16], p: usize, by: &ByVisit, from: usize) -> u64
 // The attributes of a nonterminal; those of a terminal are always available.
 fn made_attributes(words: &[u16], x: usize) -> u64
     requires x_bound { x < 65536 }
-    requires x_bound_2 { table.attributes words.now x ≤ 8 }
+    requires few_attributes { table.attributes words.now x ≤ 8 }
     ensures { result ≡ masks.made_attributes words.now x }
 {
     if access::nonterminal(words, x) {
@@ -175,23 +197,6 @@ fn made_occurrences(words: &[u16], p: usize) -> u64
     made
 }
 
-// Before the first action. The left side's inherited attributes of visit 1 are available from the start.
-pub fn start(words: &[u16], p: usize, by: &ByVisit) -> State
-    requires p_bound { p < 65536 }
-    requires shaped { places.Shaped words.now p }
-    requires tabled { masks.Tabled words.now p }
-    ensures { masks.Started words.now by.now p result.computes result.visits result.leaves result.waiting result.wanted }
-{
-    let left = access::symbol_of(words, p, 0);
-    State {
-        computes: access::defining_set(words, p),
-        visits: of_children(words, p, by, 64),
-        leaves: visits_in(by, left),
-        waiting: bits::minus(made_occurrences(words, p), inherited_of(by, left, 0)),
-        wanted: of_children(words, p, by, 0),
-    }
-}
-
 // The members of a set, each one up.
 fn one_up(set: u64) -> u64
     ensures { result ≡ masks.one_up set }
@@ -199,102 +204,122 @@ fn one_up(set: u64) -> u64
     set << 1
 }
 
-// The visits that are ready: the next one of each child, the visit before which is not left, but for the children at which something is lacking
-// that it takes along.
-pub fn ready_visits(visits: u64, lacking: u64) -> u64
-    ensures { result ≡ masks.ready_visits visits lacking }
-{
-    let mut ready = bits::minus(visits, one_up(visits));
-    let mut left = lacking;
-    while left != 0 {
-        let child = bits::raised(255, 8 * (bits::first(left) / 8));
-        ready = bits::minus(ready, child);
-        left = bits::minus(left, child);
+impl State {
+    // Before the first action. The left side's inherited attributes of visit 1 are available from the start.
+    pub fn start(words: &[u16], p: usize, by: &ByVisit) -> State
+        requires p_bound { p < 65536 }
+        requires shaped { places.Shaped words.now p }
+        requires tabled { masks.Tabled words.now p }
+        ensures { masks.Started words.now by.now p result.computes result.visits result.leaves result.waiting result.wanted }
+    {
+        let left = access::symbol_of(words, p, 0);
+        State {
+            computes: access::defining_set(words, p),
+            visits: of_children(words, p, &by.visits),
+            leaves: visits_in(by, left),
+            waiting: bits::minus(made_occurrences(words, p), inherited_of(by, left, 0)),
+            wanted: of_children(words, p, &by.inherited),
+        }
     }
-    ready
-}
 
-// The leaves that are ready. Only the next one can be: the last one where nothing else is left, another where nothing that it hands up waits.
-pub fn ready_leaves(words: &[u16], p: usize, by: &ByVisit, state: State) -> u64
-    requires p_bound { (p < 65536) × (places.symbol_from words.now p 0 < limits.most_symbols) }
-    requires few_leaves { masks.FewLeaves state.leaves }
-    ensures { result ≡ masks.ready_leaves words.now by.now p state.computes state.visits state.leaves state.waiting }
-{
-    if state.leaves == 0 {
-        return 0;
+    // The visits that are ready: the next one of each child, the visit before which is not left, but for the children at which something waits
+    // that it takes along.
+    pub fn ready_visits(self) -> u64
+        ensures { result ≡ masks.ready_visits self.visits (bit.common self.wanted self.waiting) }
+    {
+        let mut ready = bits::minus(self.visits, one_up(self.visits));
+        let mut left = bits::common(self.wanted, self.waiting);
+        // One that waits stands for all that wait at its child, which are taken out with it.
+        while left != 0 {
+            let child = bits::raised(255, 8 * (bits::first(left) / 8));
+            ready = bits::minus(ready, child);
+            left = bits::minus(left, child);
+        }
+        ready
     }
-    let b = bits::first(state.leaves);
-    if bits::rest(state.leaves) == 0 {
-        return bits::put(0, b, bits::union(state.computes, state.visits) == 0);
-    }
-    let up = synthesized_of(by, access::symbol_of(words, p, 0), b);
-    bits::put(0, b, bits::common(up, state.waiting) == 0)
-}
 
-// Compute occurrence o.
-pub fn compute(state: State, o: usize) -> Step
-    requires { o < 64 }
-    ensures { spec.Done result.action result.state.computes result.state.visits result.state.leaves result.state.waiting result.state.wanted o (bit.remove o state.computes) state.visits state.leaves (bit.remove o state.waiting) state.wanted }
-{
-    Step {
-        action: o,
-        state: State {
-            computes: bits::without(state.computes, o),
-            visits: state.visits,
-            leaves: state.leaves,
-            waiting: bits::without(state.waiting, o),
-            wanted: state.wanted,
-        },
+    // The leaves that are ready. Only the next one can be: the last one where nothing else is left, another where nothing that it hands up waits.
+    pub fn ready_leaves(self, words: &[u16], p: usize, by: &ByVisit) -> u64
+        requires p_bound { (p < 65536) × (places.symbol_from words.now p 0 < limits.most_symbols) }
+        requires few_leaves { masks.FewLeaves self.leaves }
+        ensures { result ≡ masks.ready_leaves words.now by.now p self.computes self.visits self.leaves self.waiting }
+    {
+        if self.leaves == 0 {
+            return 0;
+        }
+        let b = bits::first(self.leaves);
+        if bits::rest(self.leaves) == 0 {
+            return bits::put(0, b, bits::union(self.computes, self.visits) == 0);
+        }
+        let up = synthesized_of(by, access::symbol_of(words, p, 0), b);
+        bits::put(0, b, bits::common(up, self.waiting) == 0)
     }
-}
 
-// Visit b of a child: its synthesized attributes of that visit are available then, and its next visit takes along those inherited ones that
-// belong to it.
-pub fn visit(words: &[u16], p: usize, by: &ByVisit, state: State, b: usize) -> Step
-    requires p_bound { (p < 65536) × ((b < 64) × (b % 8 < 7)) }
-    requires b_bound { places.symbol_from words.now p (b / 8) < limits.most_symbols }
-    ensures { spec.Done result.action result.state.computes result.state.visits result.state.leaves result.state.waiting result.state.wanted (64 + b) state.computes (bit.remove b state.visits) state.leaves (bit.minus state.waiting (masks.handed_up words.now by.now p b)) (masks.wanted_next words.now by.now p b state.wanted) }
-{
-    let i = b / 8;
-    let x = access::symbol_of(words, p, i);
-    let up = synthesized_of(by, x, b % 8);
-    let down = inherited_of(by, x, b % 8 + 1);
-    let others = bits::minus(state.wanted, bits::raised(255, 8 * i));
-    Step {
-        action: 64 + b,
-        state: State {
-            computes: state.computes,
-            visits: bits::without(state.visits, b),
-            leaves: state.leaves,
-            waiting: bits::minus(state.waiting, bits::raised(up, 8 * i)),
-            wanted: bits::union(others, bits::raised(down, 8 * i)),
-        },
+    // Compute occurrence o.
+    pub fn compute(self, o: usize) -> Step
+        requires { o < 64 }
+        ensures { spec.Done (spec.number result.action) result.state.computes result.state.visits result.state.leaves result.state.waiting result.state.wanted o (bit.remove o self.computes) self.visits self.leaves (bit.remove o self.waiting) self.wanted }
+    {
+        Step {
+            action: Action::Compute(o),
+            state: State {
+                computes: bits::without(self.computes, o),
+                visits: self.visits,
+                leaves: self.leaves,
+                waiting: bits::without(self.waiting, o),
+                wanted: self.wanted,
+            },
+        }
     }
-}
 
-// Leave b to the parent: the left side's inherited attributes of the next visit are available then.
-pub fn leave(words: &[u16], p: usize, by: &ByVisit, state: State, b: usize) -> Step
-    requires p_bound { (p < 65536) × (b < 7) }
-    requires p_bound_2 { places.symbol_from words.now p 0 < limits.most_symbols }
-    ensures { spec.Done result.action result.state.computes result.state.visits result.state.leaves result.state.waiting result.state.wanted (128 + b) state.computes state.visits (bit.remove b state.leaves) (bit.minus state.waiting (masks.handed_down words.now by.now p b)) state.wanted }
-{
-    let down = inherited_of(by, access::symbol_of(words, p, 0), b + 1);
-    Step {
-        action: 128 + b,
-        state: State {
-            computes: state.computes,
-            visits: state.visits,
-            leaves: bits::without(state.leaves, b),
-            waiting: bits::minus(state.waiting, down),
-            wanted: state.wanted,
-        },
+    // Visit b of a child: its synthesized attributes of that visit are available then, and its next visit takes along those inherited ones that
+    // belong to it.
+    pub fn visit(self, words: &[u16], p: usize, by: &ByVisit, b: usize) -> Step
+        requires p_bound { (p < 65536) × ((b < 64) × (b % 8 < 7)) }
+        requires symbol_small { places.symbol_from words.now p (b / 8) < limits.most_symbols }
+        ensures { spec.Done (spec.number result.action) result.state.computes result.state.visits result.state.leaves result.state.waiting result.state.wanted (64 + b) self.computes (bit.remove b self.visits) self.leaves (bit.minus self.waiting (masks.handed_up words.now by.now p b)) (masks.wanted_next words.now by.now p b self.wanted) }
+    {
+        let i = b / 8;
+        let x = access::symbol_of(words, p, i);
+        let up = synthesized_of(by, x, b % 8);
+        let down = inherited_of(by, x, b % 8 + 1);
+        let others = bits::minus(self.wanted, bits::raised(255, 8 * i));
+        Step {
+            action: Action::Visit(b),
+            state: State {
+                computes: self.computes,
+                visits: bits::without(self.visits, b),
+                leaves: self.leaves,
+                waiting: bits::minus(self.waiting, bits::raised(up, 8 * i)),
+                wanted: bits::union(others, bits::raised(down, 8 * i)),
+            },
+        }
     }
-}
 
-// How many actions are left.
-pub fn actions_left(state: State) -> usize
-    ensures value { result ≡ bit.count 64 state.computes + bit.count 64 state.visits + bit.count 64 state.leaves }
-    ensures upper_bound { result ≤ 192 }
-{
-    bits::count(state.computes) + bits::count(state.visits) + bits::count(state.leaves)
+    // Leave b to the parent: the left side's inherited attributes of the next visit are available then.
+    pub fn leave(self, words: &[u16], p: usize, by: &ByVisit, b: usize) -> Step
+        requires p_bound { (p < 65536) × (b < 7) }
+        requires left_small { places.symbol_from words.now p 0 < limits.most_symbols }
+        ensures { spec.Done (spec.number result.action) result.state.computes result.state.visits result.state.leaves result.state.waiting result.state.wanted (128 + b) self.computes self.visits (bit.remove b self.leaves) (bit.minus self.waiting (masks.handed_down words.now by.now p b)) self.wanted }
+    {
+        let down = inherited_of(by, access::symbol_of(words, p, 0), b + 1);
+        Step {
+            action: Action::Leave(b),
+            state: State {
+                computes: self.computes,
+                visits: self.visits,
+                leaves: bits::without(self.leaves, b),
+                waiting: bits::minus(self.waiting, down),
+                wanted: self.wanted,
+            },
+        }
+    }
+
+    // How many actions are left.
+    pub fn actions_left(self) -> usize
+        ensures value { result ≡ bit.count 64 self.computes + bit.count 64 self.visits + bit.count 64 self.leaves }
+        ensures upper_bound { result ≤ 192 }
+    {
+        bits::count(self.computes) + bits::count(self.visits) + bits::count(self.leaves)
+    }
 }

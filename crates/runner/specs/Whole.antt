@@ -1,14 +1,11 @@
 -- Document 01: what a whole run answers and leaves, for every table, tree, length of the buffers and budget.
 -- Computed: no demand rests on it. Assumes nothing.
-use Rattle.std.specs.Prelude.{ℕ, ◌≤◌, ◌≡◌, List, ℤ, length}
-use Rattle.grammar.specs.declared.Verdict.TheVariants.{Good}
+use Rattle.std.specs.Prelude.{ℕ, ◌≤◌, ◌≡◌, List, ℤ, length, Result}
+use Rattle.refusals.specs.declared.Refusal.{Refusal}
 use Rattle.grammar.specs.Limits.{plan_words}
 use Rattle.grammar.specs.Table.{rules}
-use Rattle.grammar.specs.Reading.{read_table}
-use Rattle.access.specs.Offsets.{offsets_for}
 use Rattle.plans.specs.Answer.{Outcome, accepted, outcome, plan_after}
 use Rattle.trees.specs.Checking.{check_tree}
-use Rattle.runs.specs.declared.Ran as R
 use Rattle.runs.specs.declared.Report.{Report}
 use Rattle.runs.specs.Sound as sound
 use Rattle.runs.specs.Run.{run_answer, values_after}
@@ -21,7 +18,7 @@ abbrev pub left_plan : List ℕ → List ℕ → List ℕ → List ℕ
 left_plan g rows plan = plan_after g (came g rows plan) plan
 
 -- what the run answers, and the values that it leaves
-unfoldable pub answer : List ℕ → List ℕ → List ℕ → List ℕ → List ℤ → ℕ → R.Ran
+unfoldable pub answer : List ℕ → List ℕ → List ℕ → List ℕ → List ℤ → ℕ → Result Report Refusal
 answer g rows plan t values budget =
     run_answer g (left_plan g rows plan) t (came g rows plan) (check_tree g t (length values)) values budget
 
@@ -29,14 +26,12 @@ unfoldable pub values : List ℕ → List ℕ → List ℕ → List ℕ → List
 values g rows plan t vs budget =
     values_after g (left_plan g rows plan) t (came g rows plan) (check_tree g t (length vs)) vs budget
 
--- p is a plan that can be run, whoever drew it up: the table is accepted, its rules start at the offsets, the plan is sound and none of it is missing
-pub record Runnable (g offsets p : List ℕ) : Type 0 where
-  pub good : read_table g ≡ Good
-  pub starts : offsets ≡ offsets_for g Good
+-- p is a plan of an accepted table that can be run, whoever drew it up: the plan is sound and none of it is missing
+pub record Runnable (g p : List ℕ) : Type 0 where
   pub sound_plan : sound.Sound g p
   pub long : plan_words (rules g) ≤ length p
 
 -- what the check of the tree and the run of plan p answer and leave
-pub record Checked (g p t : List ℕ) (vs : List ℤ) (budget : ℕ) (report : Report) (vs' : List ℤ) : Type 0 where
-  pub answers : report.ran ≡ run_answer g p t accepted (check_tree g t (length vs)) vs budget
+pub record Checked (g p t : List ℕ) (vs : List ℤ) (budget : ℕ) (answered : Result Report Refusal) (vs' : List ℤ) : Type 0 where
+  pub answers : answered ≡ run_answer g p t accepted (check_tree g t (length vs)) vs budget
   pub values_are : vs' ≡ values_after g p t accepted (check_tree g t (length vs)) vs budget

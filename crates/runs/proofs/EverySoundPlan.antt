@@ -12,7 +12,7 @@ use lib.ListN.{length}
 use Rattle.basics.specs.Lists.{word}
 use Rattle.basics.proofs.TestLaws.{below_or_not}
 use Rattle.grammar.specs.Limits.{longest_sequence}
-use Rattle.grammar.specs.declared.Verdict.TheVariants.{Good}
+use Rattle.grammar.specs.Verdicts.{Good}
 use Rattle.grammar.specs.Table.{rules, attributes, functions, target, argument, arguments, position}
 use Rattle.grammar.specs.Reading.{read_table}
 use Rattle.grammar.proofs.AcceptedTable.{accepted}
@@ -28,7 +28,7 @@ use Rattle.runs.specs.Sound.{Sound}
 use Rattle.runs.specs.Automaton.{Machine, started, after}
 use Rattle.plans.specs.Answer.{accepted as planned}
 use Rattle.runs.specs.Totals.{total}
-use Rattle.runs.specs.Run.{Ended, ran, run_answer, values_after}
+use Rattle.runs.specs.Run.{Ended, reported, ran, run_answer, values_after}
 use Rattle.runs.specs.Depth.{longest_down}
 use Rattle.runs.specs.Balance.{RunGiven, times, Balanced}
 use Rattle.runs.specs.Computing.{machine_at, Computing, AboutTo, ComputedBefore, ExactlyOnce}
@@ -73,13 +73,13 @@ module _ (g p t : List ℕ) (values : List ℤ) (good : read_table g ≡ Good) (
       (below_or_not budget (total p t))
 
   -- the same of a table that is planned and a tree that is accepted: what is answered
-  pub answer_done : (budget : ℕ) → total p t ≤ budget → run_answer g p t planned Good values budget ≡ R.TheVariants.Done (total p t)
+  pub answer_done : (budget : ℕ) → total p t ≤ budget → run_answer g p t planned Good values budget ≡ reported (R.TheVariants.Done (total p t))
   unfolding run_answer
-  answer_done budget h = run_done budget h
+  answer_done budget h = ap reported (run_done budget h)
 
-  pub answer_stopped : (budget : ℕ) → budget < total p t → run_answer g p t planned Good values budget ≡ R.TheVariants.Stopped budget
+  pub answer_stopped : (budget : ℕ) → budget < total p t → run_answer g p t planned Good values budget ≡ reported (R.TheVariants.Stopped budget)
   unfolding run_answer
-  answer_stopped budget h = run_stopped budget h
+  answer_stopped budget h = ap reported (run_stopped budget h)
 
   -- and the values that are left
   pub values_left : (budget : ℕ) → values_after g p t planned Good values budget ≡ (machine_at g p t values (min budget (total p t))).values

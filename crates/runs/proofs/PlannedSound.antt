@@ -11,7 +11,7 @@ use lib.ListN.{length}
 use Rattle.basics.specs.Lists.{word}
 use Rattle.basics.proofs.TestLaws.{and_intro, below_or_not, eq_T}
 use Rattle.grammar.specs.Limits.{most_symbols, most_attributes}
-use Rattle.grammar.specs.declared.Verdict.TheVariants.{Good}
+use Rattle.grammar.specs.Verdicts.{Good}
 use Rattle.grammar.specs.Table.{symbols, rules, start, kind, attributes, nonterminal, symbol_of, argument, position, rule_counts}
 use Rattle.grammar.specs.Reading.{read_table}
 use Rattle.grammar.specs.WellFormed.{WellFormed}

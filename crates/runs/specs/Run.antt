@@ -1,10 +1,11 @@
 -- Document 01: a run with a budget, and what it answers and leaves in the lent buffers for every input.
 -- Computed: no demand rests on it. Assumes nothing.
-use Rattle.std.specs.Prelude.{ℕ, zero, suc, Bool, true, false, List, [], ◌∷◌, ℤ}
-use Rattle.grammar.specs.declared.Verdict.{Verdict}
-use Rattle.grammar.specs.declared.Verdict.TheVariants.{Good, Refused}
+use Rattle.std.specs.Prelude.{ℕ, zero, suc, Bool, true, false, List, [], ◌∷◌, ℤ, Result, Ok, Err}
+use Rattle.refusals.specs.declared.Refusal.{Refusal}
+use Rattle.grammar.specs.Verdicts.{Verdict}
 use Rattle.plans.specs.Answer.{Outcome, untouched, circular_idp, unordered, accepted}
 use Rattle.runs.specs.declared.Ran as R
+use Rattle.runs.specs.declared.Report.{Report}
 use Rattle.runs.specs.Automaton.{Machine, started, step}
 
 -- a run comes to its end, or its budget does
@@ -35,17 +36,21 @@ run_on g p t (suc budget) count m =
 unfoldable pub ran : List ℕ → List ℕ → List ℕ → List ℤ → ℕ → Ended
 ran g p t values budget = run_on g p t budget 0 (started t values)
 
+-- the answer of a run that is not refused
+abbrev pub reported : R.Ran → Result Report Refusal
+reported r = Ok (record { ran = r })
+
 -- What a run answers and leaves in the values, where p is the plan as planning left it, planning came so far and the tree's verdict is this.
-unfoldable pub run_answer : List ℕ → List ℕ → List ℕ → Outcome → Verdict → List ℤ → ℕ → R.Ran
-run_answer g p t (untouched n) v values budget = R.TheVariants.Refused n
-run_answer g p t (circular_idp n) v values budget = R.TheVariants.Refused n
-run_answer g p t (unordered n) v values budget = R.TheVariants.Refused n
-run_answer g p t accepted Good values budget = (ran g p t values budget).answer
-run_answer g p t accepted (Refused n) values budget = R.TheVariants.Refused n
+unfoldable pub run_answer : List ℕ → List ℕ → List ℕ → Outcome → Verdict → List ℤ → ℕ → Result Report Refusal
+run_answer g p t (untouched n) v values budget = Err n
+run_answer g p t (circular_idp n) v values budget = Err n
+run_answer g p t (unordered n) v values budget = Err n
+run_answer g p t accepted (Ok _) values budget = reported (ran g p t values budget).answer
+run_answer g p t accepted (Err n) values budget = Err n
 
 unfoldable pub values_after : List ℕ → List ℕ → List ℕ → Outcome → Verdict → List ℤ → ℕ → List ℤ
 values_after g p t (untouched n) v values budget = values
 values_after g p t (circular_idp n) v values budget = values
 values_after g p t (unordered n) v values budget = values
-values_after g p t accepted Good values budget = (ran g p t values budget).machine.values
-values_after g p t accepted (Refused n) values budget = values
+values_after g p t accepted (Ok _) values budget = (ran g p t values budget).machine.values
+values_after g p t accepted (Err n) values budget = values

@@ -1,7 +1,5 @@
-// The run of a plan over a tree. `Report` is what a run answers, and `Ran` how it came out; the definitions of `specs/` say which.
+// The run of a plan over a tree. `Report` is what a run answers that is not refused, and `Ran` how it came out; the definitions of `specs/` say which.
 #![tactic(auto)]
-
-use refusals::Refusal;
 
 #[derive(Clone, Copy)]
 pub enum Ran {
@@ -9,7 +7,6 @@ pub enum Ran {
     Done(u32),
     // The budget, after which the run stopped.
     Stopped(u32),
-    Refused(Refusal),
 }
 
 #[derive(Clone, Copy)]

@@ -21,8 +21,9 @@ const BEFORE: i32 = 9;
 fn print_node(rt: &impl Print, values: &[i32], n: usize, attributes: usize) -> io::Result<()>
     requires { (n < 1024) × ((attributes < 8) × (8 * n + 8 ≤ length values.now)) }
 {
-    for a in 0..attributes {
-        printing::value(rt, values[8 * n + a])?;
+    let first = 8 * n;
+    for v in &values[first..first + attributes] {
+        print!(rt; " {v}")?;
     }
     Ok(())
 }
@@ -31,7 +32,7 @@ fn print_node(rt: &impl Print, values: &[i32], n: usize, attributes: usize) -> i
 fn print_two_lines(rt: &impl Print, values: &[i32]) -> io::Result<()>
     requires { length values.now ≡ 40 }
 {
-    printing::word(rt, b" values")?;
+    print!(rt; " values")?;
     print_node(rt, values, 0, 1)?;
     print_node(rt, values, 1, 3)?;
     print_node(rt, values, 2, 1)?;
@@ -47,28 +48,19 @@ fn run_two_lines(rt: &impl Print, first: i32, second: i32, budget: u32) -> io::R
     values[16] = first;
     values[32] = second;
     let report = runner::run(&G, &mut rows, &mut plan, &TWO_LINES, &mut values, budget);
-    printing::word(rt, b"budget")?;
-    printing::number(rt, budget as u64)?;
-    printing::word(rt, b" ")?;
+    print!(rt; "budget {budget} ")?;
     printing::answer(rt, report)?;
     print_two_lines(rt, &values)?;
-    printing::end_line(rt)
-}
-
-fn print_priorities(rt: &impl Print, first: i32, second: i32) -> io::Result<()> {
-    printing::word(rt, b"priorities")?;
-    printing::value(rt, first)?;
-    printing::value(rt, second)?;
-    printing::end_line(rt)
+    println!(rt; "")
 }
 
 // Every budget up to one more than the run takes, and the largest.
 fn every_budget(rt: &impl Print, first: i32, second: i32) -> io::Result<()> {
-    print_priorities(rt, first, second)?;
+    println!(rt; "priorities {first} {second}")?;
     for budget in 0..18u32 {
         run_two_lines(rt, first, second, budget)?;
     }
-    run_two_lines(rt, first, second, 4294967295)
+    run_two_lines(rt, first, second, u32::MAX)
 }
 
 // Node n of a tree: its first word and two children, 0 where it has none.
@@ -119,7 +111,7 @@ fn long_chain(tree: &mut [u16; 8192])
 fn print_ends(rt: &impl Print, values: &[i32], last: usize) -> io::Result<()>
     requires { (last < 1024) × (length values.now ≡ 8192) }
 {
-    printing::word(rt, b" values")?;
+    print!(rt; " values")?;
     print_node(rt, values, 0, 1)?;
     print_node(rt, values, 1, 3)?;
     print_node(rt, values, last, 3)
@@ -150,26 +142,24 @@ fn run_large(
         &mut values,
         budget,
     );
-    printing::word(rt, b"nodes")?;
-    printing::number(rt, nodes as u64)?;
-    printing::word(rt, b" ")?;
+    print!(rt; "nodes {nodes} ")?;
     printing::answer(rt, report)?;
     print_ends(rt, &values, last)?;
-    printing::end_line(rt)
+    println!(rt; "")
 }
 
 fn large_trees(rt: &impl Print) -> io::Result<()> {
     let mut tree = [0u16; 8192];
     many_lines(&mut tree);
     run_large(rt, &G, &tree, 1023, 1021, 3578)?;
-    run_large(rt, &G, &tree, 1023, 1021, 4294967295)
+    run_large(rt, &G, &tree, 1023, 1021, u32::MAX)
 }
 
 fn deep_trees(rt: &impl Print) -> io::Result<()> {
     let mut tree = [0u16; 8192];
     long_chain(&mut tree);
     run_large(rt, &CHAIN, &tree, 1024, 1023, 5116)?;
-    run_large(rt, &CHAIN, &tree, 1024, 1023, 4294967295)
+    run_large(rt, &CHAIN, &tree, 1024, 1023, u32::MAX)
 }
 
 fn main(rt: HostRuntime) -> io::Result<()> {

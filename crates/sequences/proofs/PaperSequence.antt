@@ -11,7 +11,7 @@ use lib.ListN.{length}
 use Rattle.basics.specs.Lists.{word, member}
 use Rattle.basics.proofs.TestLaws.{and_left, and_right, or_cases}
 use Rattle.grammar.specs.Limits.{most_occurrences}
-use Rattle.grammar.specs.declared.Verdict.TheVariants.{Good}
+use Rattle.grammar.specs.Verdicts.{Good}
 use Rattle.grammar.specs.Table.{symbols, rules, occurrence, rule_counts}
 use Rattle.grammar.specs.Reading.{read_table}
 use Rattle.grammar.specs.WellFormed.{WellFormed}

@@ -5,7 +5,7 @@ use mathlib.Core.Path.{◌≡◌}
 use mathlib.Core.List.{List}
 use lib.Dec.{T, eqb→eq}
 use lib.ListN.{length}
-use Rattle.grammar.specs.declared.Verdict.TheVariants.{Good}
+use Rattle.grammar.specs.Verdicts.{Good}
 use Rattle.grammar.specs.Table.{symbols, kind, attributes, nonterminal, rule_counts}
 use Rattle.grammar.specs.Reading.{read_table}
 use Rattle.grammar.proofs.AcceptedTable.{accepted}

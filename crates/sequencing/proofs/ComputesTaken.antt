@@ -18,6 +18,7 @@ use Rattle.sequences.proofs.ActionNumbers.{decode_compute}
 use Rattle.sequences.proofs.ActionLaws.{belongs_compute, action_belongs}
 use Rattle.sequences.proofs.MakesLaws.{makes_compute, compute_made}
 use Rattle.sequencing.specs.Given.{RuleGiven}
+use Rattle.remaining.specs.declared.ByVisit.{ByVisit as Kept}
 use Rattle.remaining.specs.Remaining.{remains}
 use Rattle.sequencing.specs.Going.{Going, Taken}
 use Rattle.sequencing.specs.Blocked.{Unblocked}
@@ -27,7 +28,7 @@ use Rattle.sequencing.proofs.OrderSteps.{taken}
 use Rattle.remaining.proofs.RemainsLaws.{remains_compute, less_compute}
 use Rattle.sequencing.proofs.GivenLaws.{left_compute, ActionReady, orderly_rule, five_visits, row_path, waiting_fits}
 
-module _ (g s by rows : List ℕ) (p r : ℕ) (given : RuleGiven g s by rows p r) where
+module _ (g s : List ℕ) (by : Kept) (rows : List ℕ) (p r : ℕ) (given : RuleGiven g s by rows p r) where
   module _ (c v l w : ℕ) (going : Going g (ids_of g) s r (remains c v l) w) where
     computed : (o : ℕ) → o < 64 → T (hasb o c) → T (defining g r o)
     computed o h t =

@@ -29,6 +29,7 @@ use Rattle.sequences.proofs.OrderlyRules.{Orderly, set_at, fits}
 use Rattle.sequences.proofs.PlannedSequences.{orderly}
 use Rattle.plans.specs.Answer.{edp_paths}
 use Rattle.sequencing.specs.Given.{RuleGiven}
+use Rattle.remaining.specs.declared.ByVisit.{ByVisit as Kept}
 use Rattle.remaining.specs.Remaining.{remains}
 use Rattle.sequencing.specs.Going.{Going}
 use Rattle.sequencing.specs.Blocked.{RowsClosed}
@@ -52,7 +53,7 @@ left_visit c v l b h t = subst⁻¹ (λ (x : Bool). T x) (remains_visit c v l b 
 pub left_leave : (c v l b : ℕ) → T (hasb b l) → T (remains c v l (128 + b))
 left_leave c v l b t = subst⁻¹ (λ (x : Bool). T x) (remains_leave c v l b) t
 
-module _ (g s by rows : List ℕ) (p r : ℕ) (given : RuleGiven g s by rows p r) where
+module _ (g s : List ℕ) (by : Kept) (rows : List ℕ) (p r : ℕ) (given : RuleGiven g s by rows p r) where
   pub orderly_rule : Orderly g (ids_of g) s r
   orderly_rule =
       subst⁻¹ (λ (x : List ℕ). Orderly g (ids_of g) x r) given.sets
@@ -101,7 +102,7 @@ module _ (g s by rows : List ℕ) (p r : ℕ) (given : RuleGiven g s by rows p r
     waiting_fits x t = fits g (ids_of g) s r orderly_rule x (waits_attribute g (ids_of g) s r orderly_rule five_visits (remains c v l) w going x t).occurs
 
 -- The same as the code meets it.
-module _ (g s by rows : List ℕ) (p r : ℕ) where
+module _ (g s : List ℕ) (by : Kept) (rows : List ℕ) (p r : ℕ) where
   pub place_small : RuleGiven g s by rows p r → p < 65536
   place_small given = omega (arith, given.starts, rule_fits g r given.good (omega (arith, given.counts)))
 
@@ -132,6 +133,3 @@ module _ (g s by rows : List ℕ) (p r : ℕ) where
       has_path o b h m t =
           (edp_path_exact g given.good s r (lt→ltb r (rules g) given.counts) o b).0
           (subst (λ (x : Bool). T x) (row_path g s by rows p r given o b h m) t)
-
-  pub rows_ready : RuleGiven g s by rows p r → (row_words r + most_occurrences ≤ length rows) × RowsClosed rows (row_words r)
-  rows_ready given = (rows_room given, rows_closed given)

@@ -39,6 +39,7 @@ use Rattle.sequences.proofs.ActionLaws.{LeftLeave, belongs_leave, action_belongs
 use Rattle.sequences.proofs.MakesLaws.{makes_leave}
 use Rattle.sequences.proofs.OrderlyRules.{set_at, left_nonterminal_law}
 use Rattle.sequencing.specs.Given.{RuleGiven}
+use Rattle.remaining.specs.declared.ByVisit.{ByVisit as Kept}
 use Rattle.remaining.specs.Remaining.{remains}
 use Rattle.sequencing.specs.Going.{Going}
 use Rattle.remaining.specs.RuleSets.{synthesized_mask, leave_free, others, leave_ready}
@@ -60,7 +61,7 @@ from_others c v k t =
     let h : k < 64 = hasb_below 64 k (others c v) (collect_lt 64 _) t in
     (h, or_cases _ _ (subst (λ (x : Bool). T x) (hasb_collect 64 k _ h) t))
 
-module _ (g s by rows : List ℕ) (p r : ℕ) (given : RuleGiven g s by rows p r) where
+module _ (g s : List ℕ) (by : Kept) (rows : List ℕ) (p r : ℕ) (given : RuleGiven g s by rows p r) where
   module _ (c v l w : ℕ) (going : Going g (ids_of g) s r (remains c v l) w) where
     -- leave b is leave b + 1 of the left side
     pub leave_is : (b : ℕ) → T (hasb b l) → decode (128 + b) ≡ leave (b + 1)

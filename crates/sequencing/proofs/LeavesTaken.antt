@@ -24,6 +24,7 @@ use Rattle.sequences.proofs.TieLaws.{ready_use}
 use Rattle.sequences.proofs.AlwaysReady.{always_ready}
 use Rattle.sequences.proofs.OrderlyRules.{set_at, left_nonterminal_law, set_low}
 use Rattle.sequencing.specs.Given.{RuleGiven}
+use Rattle.remaining.specs.declared.ByVisit.{ByVisit as Kept}
 use Rattle.remaining.specs.Remaining.{remains, remaining}
 use Rattle.sequencing.specs.Going.{Going, Taken}
 use Rattle.remaining.specs.RuleSets.{handed_down, ready_leaves}
@@ -38,7 +39,7 @@ use Rattle.remaining.proofs.MaskLaws.{Seen, down_at, at_down}
 use Rattle.sequencing.proofs.GivenLaws.{ActionReady, orderly_rule, five_visits, seen_at, left_leave, set_from, visits_from}
 use Rattle.sequencing.proofs.LeaveTests.{left_side, ready_next, leave_few, leave_inside, next_ready, leave_is}
 
-module _ (g s by rows : List ℕ) (p r : ℕ) (given : RuleGiven g s by rows p r) where
+module _ (g s : List ℕ) (by : Kept) (rows : List ℕ) (p r : ℕ) (given : RuleGiven g s by rows p r) where
   module _ (c v l w : ℕ) (going : Going g (ids_of g) s r (remains c v l) w) where
     leave_is_ready : (b : ℕ) → T (hasb b (ready_leaves g by p c v l w)) → ActionReady g s r c v l (128 + b)
     leave_is_ready b t =

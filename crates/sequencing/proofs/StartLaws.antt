@@ -33,6 +33,7 @@ use Rattle.sequences.proofs.OrderlyRules.{set_at, fits, left_nonterminal_law}
 use Rattle.sequences.proofs.SequenceLaws.{compute_stands, visit_stands, leave_stands}
 use Rattle.sequences.proofs.AvailableFirst.{maker}
 use Rattle.sequencing.specs.Given.{RuleGiven}
+use Rattle.remaining.specs.declared.ByVisit.{ByVisit as Kept}
 use Rattle.remaining.specs.Remaining.{remains, remaining}
 use Rattle.sequencing.specs.Going.{Going}
 use Rattle.remaining.specs.RuleSets.{inherited_mask, visits_in, child_in, children_in, made_from, NextVisit, Along, Started}
@@ -61,7 +62,7 @@ count_members (suc w) s f e =
     one true = refl
     one false = refl
 
-module _ (g s by rows : List ℕ) (p r : ℕ) (given : RuleGiven g s by rows p r) (c v l w d : ℕ) (started : Started g by p c v l w d) where
+module _ (g s : List ℕ) (by : Kept) (rows : List ℕ) (p r : ℕ) (given : RuleGiven g s by rows p r) (c v l w d : ℕ) (started : Started g by p c v l w d) where
   -- the visits of a symbol of the rule, in the table
   from_visits : (i n : ℕ) → i ≤ right_length g r → T (hasb n (visits_in by (symbol_from g p i)))
       → T (nonterminal g (symbol_from g p i)) × (n < visits s (symbol_from g p i))
@@ -79,12 +80,12 @@ module _ (g s by rows : List ℕ) (p r : ℕ) (given : RuleGiven g s by rows p r
       ∙ (ap (λ (x : ℕ). hasb o x) (started.computes_are ∙ definings_at_rule g r p given.starts) ∙ hasb_collect 64 o _ h)
 
   -- the visits those of the nonterminal children
-  visit_left : (b : ℕ) → b < 64 → remains c v l (64 + b) ≡ child_in g by p 64 b
+  visit_left : (b : ℕ) → b < 64 → remains c v l (64 + b) ≡ child_in g by.visits p b
   unfolding children_in
   visit_left b h =
       remains_visit c v l b h ∙ (ap (λ (x : ℕ). hasb b x) started.visits_are ∙ hasb_collect 64 b _ h)
 
-  from_visit : (b : ℕ) → T (child_in g by p 64 b) → ChildVisit g s r (b / 8) (b % 8 + 1)
+  from_visit : (b : ℕ) → T (child_in g by.visits p b) → ChildVisit g s r (b / 8) (b % 8 + 1)
   unfolding child_in visits_in
   from_visit b t =
       let u = and_left _ _ t in
@@ -98,7 +99,7 @@ module _ (g s by rows : List ℕ) (p r : ℕ) (given : RuleGiven g s by rows p r
         last = omega (arith, x.1, visits_from g s by rows p r given (b / 8));
       }
 
-  visit_from : (b : ℕ) → ChildVisit g s r (b / 8) (b % 8 + 1) → T (child_in g by p 64 b)
+  visit_from : (b : ℕ) → ChildVisit g s r (b / 8) (b % 8 + 1) → T (child_in g by.visits p b)
   unfolding child_in visits_in
   visit_from b k =
       and_intro _ _
@@ -263,11 +264,11 @@ module _ (g s by rows : List ℕ) (p r : ℕ) (given : RuleGiven g s by rows p r
   starts_along =
       record {
         takes = λ b o h t lowest q u.
-            let k : o < 64 = hasb_below 64 o (children_in g by p 0) (collect_lt 64 _) (subst (λ (x : ℕ). T (hasb o x)) started.wanted_are u) in
+            let k : o < 64 = hasb_below 64 o (children_in g by.inherited p) (collect_lt 64 _) (subst (λ (x : ℕ). T (hasb o x)) started.wanted_are u) in
             let z = subst (λ (x : Bool). T x) (hasb_collect 64 o _ k) (subst (λ (x : ℕ). T (hasb o x)) started.wanted_are u) in
             subst⁻¹ (λ (n : ℕ). T (hasb (o % 8) (inherited_mask by (symbol_from g p (b / 8)) n))) (first_next b h t lowest)
             ((first_inherited by (symbol_from g p (b / 8)) (o % 8) (omega arith)).1
-            (subst (λ (j : ℕ). T (hasb (o % 8) (word by (0 + symbol_from g p j)))) q (and_right _ _ z)));
+            (subst (λ (j : ℕ). T (hasb (o % 8) (word by.inherited (symbol_from g p j)))) q (and_right _ _ z)));
         taken = λ b o h t lowest q u.
             let k = from_visit b (subst (λ (x : Bool). T x) (visit_left b h) (subst⁻¹ (λ (x : Bool). T x) (remains_visit c v l b h) t)) in
             let z = (first_inherited by (symbol_from g p (b / 8)) (o % 8) (omega arith)).0
@@ -276,7 +277,7 @@ module _ (g s by rows : List ℕ) (p r : ℕ) (given : RuleGiven g s by rows p r
             (subst⁻¹ (λ (x : Bool). T x) (hasb_collect 64 o _ (omega arith))
             (and_intro _ _
             (and_intro _ _ (le→leb 1 (o / 8) (omega (arith, k.child))) (le→leb (o / 8) (length_at g p) (omega (arith, k.inside, length_is g s by rows p r given))))
-            (subst⁻¹ (λ (j : ℕ). T (hasb (o % 8) (word by (0 + symbol_from g p j)))) q z)));
+            (subst⁻¹ (λ (j : ℕ). T (hasb (o % 8) (word by.inherited (symbol_from g p j)))) q z)));
       }
 
   pub starts_all : remaining (remains c v l) ≡ actions_of g s r

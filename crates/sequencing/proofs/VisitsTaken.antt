@@ -19,6 +19,7 @@ use Rattle.sequences.proofs.ActionNumbers.{decode_number}
 use Rattle.sequences.proofs.ActionLaws.{ChildVisit, belongs_visit, action_belongs}
 use Rattle.sequences.proofs.MakesLaws.{makes_visit, visit_makes, synthesized_of_law}
 use Rattle.sequencing.specs.Given.{RuleGiven}
+use Rattle.remaining.specs.declared.ByVisit.{ByVisit as Kept}
 use Rattle.remaining.specs.Remaining.{remains}
 use Rattle.sequencing.specs.Going.{Going, Taken}
 use Rattle.remaining.specs.RuleSets.{inherited_mask, handed_up, wanted_next, NextVisit, Along, ready_visits}
@@ -37,7 +38,7 @@ visit_is_law b h =
     let e : 64 + b ≡ 64 + 8 * (b / 8) + (b % 8 + 1 - 1) = omega arith in
     ap decode e ∙ decode_number (visit (b / 8) (b % 8 + 1)) (omega arith, omega arith, omega arith)
 
-module _ (g s by rows : List ℕ) (p r : ℕ) (given : RuleGiven g s by rows p r) where
+module _ (g s : List ℕ) (by : Kept) (rows : List ℕ) (p r : ℕ) (given : RuleGiven g s by rows p r) where
   module _ (c v l w : ℕ) (going : Going g (ids_of g) s r (remains c v l) w) where
     pub child : (b : ℕ) → b < 64 → T (hasb b v) → ChildVisit g s r (b / 8) (b % 8 + 1)
     child b h t =

@@ -1,12 +1,12 @@
 -- The words of the sequence, action after action: what is written is the start of the construction, and what is left gives its rest.
--- The block then goes into the plan word by word. Assumes nothing.
+-- The block then goes into the plan at its place. Assumes nothing.
 use Prim.Native.Nat.{ℕ, suc, ◌+◌, ◌-◌, ◌≤◌, ◌<◌}
 use mathlib.Core.Path.{◌≡◌, refl, sym, ◌∙◌, ap, ap₂}
 use mathlib.Core.List.{List, [], ◌∷◌, ◌++◌, append_assoc, append-nil}
 use native.Mathlib.Omega.{arith}
-use native.Mathlib.Numerals.{add-one}
-use lib.ListN.{length, get_or, set, take, drop, replicate, length-append}
-use lib.Seq.{set_at, take_all, paste, paste-zero, paste-suc, length-paste}
+use lib.ListN.{length, set, take, drop, replicate, length-append}
+use lib.Seq.{set_at, drop-drop}
+use borrow.Rule.Slice.PartMut.{put_mid}
 use Rattle.basics.specs.Lists.{padded}
 use Rattle.bits.specs.Bit as bits
 use Rattle.grammar.specs.Limits.{row_words, rule_words, longest_sequence}
@@ -19,6 +19,7 @@ use Rattle.sequences.specs.Order.{order, sequence_of}
 use Rattle.sequences.proofs.ActionLaws.{at_most_104}
 use Rattle.plans.specs.Buffers.{sequence_words}
 use Rattle.sequencing.specs.Given.{RuleGiven, with_block}
+use Rattle.remaining.specs.declared.ByVisit.{ByVisit as Kept}
 use Rattle.remaining.specs.Remaining.{remains, remaining}
 use Rattle.sequencing.specs.Blocked.{Unblocked}
 use Rattle.sequencing.specs.Going.{Going, Taken}
@@ -26,7 +27,7 @@ use Rattle.remaining.specs.RuleSets.{Along, Started}
 use Rattle.sequencing.proofs.GivenLaws.{five_visits}
 use Rattle.sequencing.proofs.StartLaws.{starts_going, starts_along, starts_all, starts_count}
 
-module _ (g s by rows : List ℕ) (p r : ℕ) where
+module _ (g s : List ℕ) (by : Kept) (rows : List ℕ) (p r : ℕ) where
   pub shaped_given : RuleGiven g s by rows p r → Shaped g p
   shaped_given given = shaped_rule g r p given.starts given.good given.counts
 
@@ -115,43 +116,13 @@ module _ (g s by rows : List ℕ) (p r : ℕ) where
       ∙ ap (λ (b : List ℕ). padded rule_words (length b ∷ b)) (sym all)))
 
 -- the block is copied
-pub record Copying (entry : List ℕ) (at : ℕ) (block plan : List ℕ) (j : ℕ) : Type 0 where
-  pub inside : j ≤ length block
-  pub room : at + length block ≤ length entry
-  pub plan_is : plan ≡ paste entry at block j
-
-pub copying_start : (plan : List ℕ) (at : ℕ) (block : List ℕ) → at + length block ≤ length plan → Copying plan at block plan 0
-copying_start plan at block h = record { inside = omega arith; room = h; plan_is = paste-zero plan at block }
-
-pub copying_place : (entry : List ℕ) (at : ℕ) (block plan : List ℕ) (j : ℕ) → Copying entry at block plan j → j < length block → at + j < length plan
-copying_place entry at block plan j w h =
-    omega (arith, w.room, ap length w.plan_is, length-paste entry at block j (omega (arith, w.room)) (omega arith))
-
-pub copying_turn : (entry : List ℕ) (at : ℕ) (block plan : List ℕ) (j : ℕ) → Copying entry at block plan j → j < length block
-    → Copying entry at block (set plan (at + j) (get_or block j 0)) (j + 1)
-copying_turn entry at block plan j w h =
-    record {
-      inside = omega arith;
-      room = w.room;
-      plan_is =
-          ap (λ (x : List ℕ). set x (at + j) (get_or block j 0)) w.plan_is
-          ∙ (paste-suc entry at block j 0 (omega (arith, w.room)) h
-          ∙ ap (λ (k : ℕ). paste entry at block k) (sym (add-one j)));
-    }
-
-pub copying_length : (entry : List ℕ) (at : ℕ) (block plan : List ℕ) (j : ℕ) → Copying entry at block plan j → length plan ≡ length entry
-copying_length entry at block plan j w =
-    ap length w.plan_is ∙ length-paste entry at block j (omega (arith, w.room, w.inside)) w.inside
-
-pub copying_finish : (entry : List ℕ) (at : ℕ) (block plan : List ℕ) (j : ℕ) → Copying entry at block plan j → length block ≤ j
-    → plan ≡ with_block entry at block
+pub block_put : (plan : List ℕ) (at : ℕ) (block next : List ℕ) → next ≡ block
+    → put_mid at (at + length block - at) plan next ≡ with_block plan at block
 unfolding with_block
-copying_finish entry at block plan j w h =
-    let e : j ≡ length block = omega (arith, w.inside) in
-    w.plan_is
-    ∙ (ap (λ (k : ℕ). paste entry at block k) e
-    ∙ (ap (λ (b : List ℕ). take at entry ++ b ++ drop (at + length block) entry) (take_all (length block) block (omega arith))
-    ∙ append_assoc (take at entry) block (drop (at + length block) entry)))
+block_put plan at block next e =
+    let n : at + length block - at ≡ length block = omega arith in
+    ap (λ (b : List ℕ). take at plan ++ (b ++ drop (at + length block - at) (drop at plan))) e
+    ∙ ap (λ (d : List ℕ). take at plan ++ (block ++ d)) (ap (λ (k : ℕ). drop k (drop at plan)) n ∙ drop-drop (length block) at plan)
 
 -- the block that is written is the sequence
 pub sequence_written : (plan block sequence next : List ℕ) (at : ℕ) → block ≡ sequence → next ≡ with_block plan at block → next ≡ with_block plan at sequence

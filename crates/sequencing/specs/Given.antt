@@ -4,7 +4,7 @@ use Rattle.std.specs.Prelude.{ℕ, ◌+◌, ◌≤◌, ◌<◌, ◌≡◌, List,
 use Rattle.basics.specs.Lists.{word}
 use Rattle.bits.specs.Bit.{collect}
 use Rattle.grammar.specs.Limits.{most_occurrences, row_words}
-use Rattle.grammar.specs.declared.Verdict.TheVariants.{Good}
+use Rattle.grammar.specs.Verdicts.{Good}
 use Rattle.grammar.specs.Table.{rules, rule_at}
 use Rattle.grammar.specs.Reading.{read_table}
 use Rattle.relations.specs.Computed.{ids_of}
@@ -12,6 +12,7 @@ use Rattle.sets.specs.Computed.{sets_of}
 use Rattle.sets.specs.Visits.{set_number}
 use Rattle.order.specs.Paper.{CircularIDP, Ordered}
 use Rattle.plans.specs.Answer.{edp_paths}
+use Rattle.remaining.specs.declared.ByVisit.{ByVisit as Kept}
 use Rattle.remaining.specs.RuleSets.{ByVisit}
 
 -- the set words of a table
@@ -20,7 +21,7 @@ set_words g = sets_of g (ids_of g)
 
 -- What is known of rule r, which starts at word p: the table is accepted and ordered, s are its set words, by has them by visit, and the
 -- rows of the rule hold the paths of its EDP.
-pub record RuleGiven (g s by rows : List ℕ) (p r : ℕ) : Type 0 where
+pub record RuleGiven (g s : List ℕ) (by : Kept) (rows : List ℕ) (p r : ℕ) : Type 0 where
   pub good : read_table g ≡ Good
   pub counts : r < rules g
   pub starts : p ≡ rule_at g r

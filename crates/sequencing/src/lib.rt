@@ -51,16 +51,16 @@ fn compute_first(rows: &[u64], base: usize, ready: u64, state: State) -> Turn
     requires rows_closed { blocking.RowsClosed rows.now base }
     requires unblocked { blocking.Unblocked rows.now base state.waiting state.computes ready }
     requires ready_nonzero { 0 < ready }
-    ensures first { bit.First ready result.step.action }
-    ensures done { spec.Done result.step.action result.step.state.computes result.step.state.visits result.step.state.leaves result.step.state.waiting result.step.state.wanted result.step.action (bit.remove result.step.action state.computes) state.visits state.leaves (bit.remove result.step.action state.waiting) state.wanted }
+    ensures first { bit.First ready (spec.number result.step.action) }
+    ensures done { spec.Done (spec.number result.step.action) result.step.state.computes result.step.state.visits result.step.state.leaves result.step.state.waiting result.step.state.wanted (spec.number result.step.action) (bit.remove (spec.number result.step.action) state.computes) state.visits state.leaves (bit.remove (spec.number result.step.action) state.waiting) state.wanted }
     ensures unblocked_2 { blocking.Unblocked rows.now base result.step.state.waiting result.step.state.computes result.ready }
 {
     let o = bits::first(ready);
-    let step = remaining::compute(state, o);
+    let step = state.compute(o);
     let leads = bits::common(rows[base + o], step.state.computes);
     let woken = unblocked(rows, base, step.state.waiting, bits::minus(leads, ready));
     Turn {
-        step: step,
+        step,
         ready: bits::union(bits::rest(ready), woken),
     }
 }
@@ -77,19 +77,19 @@ fn next(
 ) -> Turn
     requires rule_given { given.RuleGiven words.now (given.set_words words.now) by.now rows.now p r }
     requires going { going.Going words.now (ids_of words.now) (given.set_words words.now) r (spec.remains state.computes state.visits state.leaves) state.waiting }
-    requires in_bounds { 1 ≤ length (spec.remaining (spec.remains state.computes state.visits state.leaves)) }
+    requires some_left { 1 ≤ length (spec.remaining (spec.remains state.computes state.visits state.leaves)) }
     requires along { masks.Along words.now by.now p state.visits state.wanted }
     requires unblocked { blocking.Unblocked rows.now (limits.row_words r) state.waiting state.computes ready }
-    ensures taken { going.Taken words.now (ids_of words.now) (given.set_words words.now) r (spec.remains state.computes state.visits state.leaves) result.step.action (spec.remains result.step.state.computes result.step.state.visits result.step.state.leaves) result.step.state.waiting }
+    ensures taken { going.Taken words.now (ids_of words.now) (given.set_words words.now) r (spec.remains state.computes state.visits state.leaves) (spec.number result.step.action) (spec.remains result.step.state.computes result.step.state.visits result.step.state.leaves) result.step.state.waiting }
     ensures along_2 { masks.Along words.now by.now p result.step.state.visits result.step.state.wanted }
     ensures unblocked_2 { blocking.Unblocked rows.now (limits.row_words r) result.step.state.waiting result.step.state.computes result.ready }
 {
     if ready != 0 {
         return compute_first(rows, ROWS * r, ready, state);
     }
-    let visits = remaining::ready_visits(state.visits, bits::common(state.wanted, state.waiting));
+    let visits = state.ready_visits();
     if visits != 0 {
-        let visited = remaining::visit(words, p, by, state, bits::first(visits));
+        let visited = state.visit(words, p, by, bits::first(visits));
         return Turn {
             step: visited,
             ready: unblocked(
@@ -100,8 +100,8 @@ fn next(
             ),
         };
     }
-    let leaves = remaining::ready_leaves(words, p, by, state);
-    let left = remaining::leave(words, p, by, state, bits::first(leaves));
+    let leaves = state.ready_leaves(words, p, by);
+    let left = state.leave(words, p, by, bits::first(leaves));
     Turn {
         step: left,
         ready: unblocked(rows, ROWS * r, left.state.waiting, left.state.computes),
@@ -113,15 +113,15 @@ fn words_of(words: &[u16], p: usize, r: usize, by: &ByVisit, rows: &[u64]) -> [u
     requires { given.RuleGiven words.now (given.set_words words.now) by.now rows.now p r }
     ensures { result ≡ sequence_words (sequence_of words.now (ids_of words.now) (given.set_words words.now) r) }
 {
-    let mut state = remaining::start(words, p, by);
-    let n = remaining::actions_left(state);
+    let mut state = State::start(words, p, by);
+    let n = state.actions_left();
     let mut ready = unblocked(rows, ROWS * r, state.waiting, state.computes);
     let mut block = [0u16; RULE_WORDS];
     block[0] = n as u16;
     for j in 0..n {
         let turn = next(words, p, r, by, rows, ready, state);
         let step = turn.step;
-        block[j + 1] = step.action as u16;
+        block[j + 1] = step.action.word();
         state = step.state;
         ready = turn.ready;
     }
@@ -133,9 +133,7 @@ pub fn write(plan: &mut [u16], at: usize, block: &[u16])
     requires { at + length block.now ≤ length plan.old }
     ensures { plan.new ≡ given.with_block plan.old at block.now }
 {
-    for j in 0..block.len() {
-        plan[at + j] = block[j];
-    }
+    plan[at..at + block.len()].copy_from_slice(block);
 }
 
 // The visit-sequence of rule r, which starts at word p.

@@ -13,9 +13,8 @@ use Rattle.basics.specs.Lists.{word}
 use Rattle.basics.proofs.TestLaws.{and_left, and_right, and_intro, all_at, eq_T, tested, chosen, passed_over}
 use Rattle.basics.proofs.CountingLaws.{count_find, count_only}
 use Rattle.refusals.specs.declared.Refusal.TheVariants.{RootNotStart, ChildDiffers, NotOneParent, ValuesTooShort}
-use Rattle.grammar.specs.declared.Verdict.TheVariants.{Good}
 use Rattle.grammar.specs.Table.{symbols, rules, nonterminal, right_length, symbol_of}
-use Rattle.grammar.specs.Verdicts.{◌then◌, unless, each}
+use Rattle.grammar.specs.Verdicts.{Good, ◌then◌, unless, each}
 use Rattle.grammar.specs.WellFormed.{WellFormed, RuleFormed}
 use Rattle.grammar.proofs.VerdictLaws.{then_first, then_second, unless_passes, each_at}
 use Rattle.trees.specs.Tree.{

@@ -11,7 +11,7 @@ use lib.ListN.{length}
 use Rattle.basics.specs.Tests.{count}
 use Rattle.basics.proofs.TestLaws.{and_intro, all_intro, eq_T, tested, chosen, passed_over}
 use Rattle.basics.proofs.CountingLaws.{count_one}
-use Rattle.grammar.specs.declared.Verdict.TheVariants.{Good}
+use Rattle.grammar.specs.Verdicts.{Good}
 use Rattle.grammar.specs.Table.{symbols, rules, start, symbol_of}
 use Rattle.grammar.specs.WellFormed.{WellFormed}
 use Rattle.grammar.proofs.VerdictLaws.{then_good, unless_good, each_good}

@@ -12,9 +12,8 @@ use Rattle.refusals.specs.declared.Refusal.TheVariants.{
   NotOneParent,
   ValuesTooShort,
 }
-use Rattle.grammar.specs.declared.Verdict.{Verdict}
 use Rattle.grammar.specs.Table.{symbols, rules, start, nonterminal, symbol_of}
-use Rattle.grammar.specs.Verdicts.{◌then◌, unless, each}
+use Rattle.grammar.specs.Verdicts.{Verdict, ◌then◌, unless, each}
 use Rattle.trees.specs.Tree.{
   most_nodes,
   terminal_mark,

@@ -11,7 +11,9 @@ use lib.Dec.{T, ltb}
 use mir.Syntax.{w32}
 use mir.Val.{SFits}
 use mir.Facts.{sfits_lit}
-use Rattle.values.specs.Value.{least, greatest, hold, constant, truth, served_before, exact, result, same}
+use Rattle.std.specs.Int.{saturate_signed, int_max, int_min, from_bool}
+use Rattle.std.proofs.lemmas.Int.{ints}
+use Rattle.values.specs.Value.{least, greatest, hold, constant, truth, served_before, exact, result, same, larger, smaller, less}
 
 -- ---- between the ends
 
@@ -113,3 +115,28 @@ same_false (pos a) (pos b) d = ne_eqb a b (λ e. d (ap pos e))
 same_false (pos a) (negsuc b) d = refl
 same_false (negsuc a) (pos b) d = refl
 same_false (negsuc a) (negsuc b) d = ne_eqb a b (λ e. d (ap negsuc e))
+
+-- ---- what std answers, by the definitions here
+
+-- a sum or a difference that std holds at the ends of i32
+pub saturated : {r : ℤ} (z : ℤ) → r ≡ saturate_signed w32 z → r ≡ hold z
+unfolding hold
+saturated (pos n) e = grind arith
+saturated (negsuc n) e = grind arith
+
+pub larger_is : {r : ℤ} (x y : ℤ) → r ≡ int_max x y → r ≡ larger x y
+unfolding larger
+larger_is x y e = grind (arith, ints)
+
+pub smaller_is : {r : ℤ} (x y : ℤ) → r ≡ int_min x y → r ≡ smaller x y
+unfolding smaller
+smaller_is x y e = grind (arith, ints)
+
+-- 1 where a test holds, else 0
+pub truth_is : {r : ℤ} (b : Bool) → r ≡ pos (from_bool b) → r ≡ truth b
+truth_is true e = e
+truth_is false e = e
+
+pub less_is : {r : ℤ} (x y : ℤ) → r ≡ pos (from_bool (lt_z x y)) → r ≡ less x y
+unfolding less
+less_is x y e = truth_is (lt_z x y) e

@@ -7,8 +7,8 @@ use Rattle.checking.proofs.count_names.Goals as goal
 pub loop-n-init : goal.loop-n-init
 loop-n-init c = search counted_start
 
-pub used_slots-requires-clause-t : goal.used_slots-requires-clause-t
-used_slots-requires-clause-t c = search counted_known
+pub used_slots-requires-clause-known : goal.used_slots-requires-clause-known
+used_slots-requires-clause-known c = search counted_known
 
 pub name_children-requires : goal.name_children-requires
 name_children-requires c = search counted_naming

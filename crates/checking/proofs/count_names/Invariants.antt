@@ -6,7 +6,7 @@ use Rattle.checking.proofs.NameLaws.{CountedTo}
 use Rattle.checking.proofs.count_names.Given as goal
 
 abbrev pub invariant-loop-n : goal.invariant-loop-n
-invariant-loop-n l = CountedTo l.words l.t l.named l.n l.nodes
+invariant-loop-n l = CountedTo l.table.words.now l.t l.named l.n l.nodes
 
 abbrev pub decreases-loop-n : goal.decreases-loop-n
 decreases-loop-n l = l.nodes - l.n

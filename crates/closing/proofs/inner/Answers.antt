@@ -1,17 +1,14 @@
 -- The invariant: the members that lead on, and what members lead to, as far as they are no longer left.
 use borrow.Author.Rules.{rules}
-use Rattle.closing.proofs.RewriteLaws.{rest_less}
+use Rattle.bits.proofs.WalkLaws.{all_left}
 use Rattle.closing.proofs.InnerLaws.{seeing_start, seeing_turn, seeing_finish}
 use Rattle.closing.proofs.inner.Goals as goal
 
-pub loop-left-init : goal.loop-left-init
-loop-left-init c = search seeing_start
+pub loop-o-init : goal.loop-o-init
+loop-o-init c = search (seeing_start, all_left)
 
-pub loop-left-smaller : goal.loop-left-smaller
-loop-left-smaller c = search rest_less
-
-pub loop-left-preserved : goal.loop-left-preserved
-loop-left-preserved c = search (seeing_turn, rules)
+pub loop-o-preserved : goal.loop-o-preserved
+loop-o-preserved c = search (seeing_turn, rules, c.in-Some.ensures.steps)
 
 pub returns : goal.returns
-returns c = search seeing_finish
+returns c = search (seeing_finish, c.in-None.ensures.steps)

@@ -2,8 +2,5 @@
 use Rattle.closing.proofs.InnerLaws.{Seeing}
 use Rattle.closing.proofs.inner.Given as goal
 
-abbrev pub invariant-loop-left : goal.invariant-loop-left
-invariant-loop-left l = Seeing l.rows l.base l.among l.starts l.ends l.left
-
-abbrev pub decreases-loop-left : goal.decreases-loop-left
-decreases-loop-left l = l.left
+abbrev pub invariant-loop-o : goal.invariant-loop-o
+invariant-loop-o l = Seeing l.rows l.base l.among l.starts l.ends l.o-iterator.left

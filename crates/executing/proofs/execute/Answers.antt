@@ -1,49 +1,52 @@
--- `executing::execute` meets its contract. The invariant LoopAt: the arrays hold the automaton after as many steps as the budget has lost, the node on top is at
--- the plan's word `at`, and its place is the word's distance from where its sequence starts. A budget used up with a node on top says that the total
+-- `executing::execute` meets its contract. The invariant LoopAt: the arrays hold the automaton after as many steps as the loop has made, the node on top is
+-- at the plan's word `at`, and its place is the word's distance from where its sequence starts. A budget used up with a node on top says that the total
 -- is not reached; a leave that finds no node below says that it is. Assumes nothing.
-use native.Mathlib.Omega.{arith}
 use borrow.Author.Rules.{rules}
-use Rattle.executing.proofs.RunLaws.{root_placed, left_start, stopped_answer, stopped_values, valued, cell_there, child_placed, parent_there, turn_compute, turn_visit, turn_leave, done_answer, done_values}
+use Rattle.executing.proofs.RunLaws.{root_placed, loop_start, stopped_answer, stopped_values, valued, cell_there, child_placed, popped_there, turn_compute, turn_visit, popped_turn, done_answer, done_values, same_turn}
+use Rattle.executing.proofs.execute.Goals.{in-Compute, in-Visit, in-Leave+in-Some}
 use Rattle.executing.proofs.execute.Goals as goal
 
-pub top_at-root-requires : goal.top_at-root-requires
-top_at-root-requires c = (search root_placed, search rules)
+pub top_at-top-requires : goal.top_at-top-requires
+top_at-top-requires c = (search root_placed, search rules)
 
-pub loop-left-init : goal.loop-left-init
-loop-left-init c = search left_start
-
-pub returns-then-left-eq0-clause-value : goal.returns-then-left-eq0-clause-value
-returns-then-left-eq0-clause-value c = search stopped_answer
-
-pub returns-then-left-eq0-clause-values_after : goal.returns-then-left-eq0-clause-values_after
-returns-then-left-eq0-clause-values_after c = search stopped_values
+pub loop-spent-init : goal.loop-spent-init
+loop-spent-init c = loop_start _ _ _ _ _ c.args.table.now.accepted c.requires.sound c.requires.words_in_bounds c.requires.values_value c.function_starts.ensures c.top_at-top.ensures _
 
 pub compute-requires-clause-valued : goal.compute-requires-clause-valued
-compute-requires-clause-valued c = valued c.loop-left.invariant c.if-left-eq0.false c.known-action.ensures.value c.if-action-lt64.true c.start_of.ensures.0
+compute-requires-clause-valued c = valued c.loop-spent.invariant c.loop-spent-test.true c.known-action.ensures.value c.in-Compute.ensures c.start_of.ensures.0
 
 pub compute-requires-clause-o_in_bounds : goal.compute-requires-clause-o_in_bounds
-compute-requires-clause-o_in_bounds c = cell_there c.loop-left.invariant c.if-left-eq0.false c.known-action.ensures.value c.if-action-lt64.true
+compute-requires-clause-o_in_bounds c = cell_there c.loop-spent.invariant c.loop-spent-test.true c.known-action.ensures.value c.in-Compute.ensures
 
-pub loop-left-preserved-then-action-lt64 : goal.loop-left-preserved-then-action-lt64
-loop-left-preserved-then-action-lt64 c = turn_compute c.loop-left.invariant c.if-left-eq0.false c.known-action.ensures.value c.if-action-lt64.true c.start_of.ensures.0
-    c.compute.ensures
+pub child_top-top-requires-clause-placed : goal.child_top-top-requires-clause-placed
+child_top-top-requires-clause-placed c = child_placed c.loop-spent.invariant c.loop-spent-test.true c.known-action.ensures.value c.in-Visit.ensures
 
-pub child_top-visited-requires-clause-placed : goal.child_top-visited-requires-clause-placed
-child_top-visited-requires-clause-placed c = search (child_placed, rules)
+pub returns-in_default-clause-value : goal.returns-in_default-clause-value
+returns-in_default-clause-value c = done_answer c.loop-spent.invariant c.loop-spent-test.true c.known-action.ensures.value c.in-Leave.ensures c.in_default.ensures
 
-pub loop-left-preserved-then-action-lt128 : goal.loop-left-preserved-then-action-lt128
-loop-left-preserved-then-action-lt128 c = turn_visit c.loop-left.invariant c.if-left-eq0.false c.known-action.ensures.value (omega arith) (omega arith) c.push.ensures.stack_after
-    c.push.ensures.marks_after c.child_top-visited.ensures
+pub returns-in_default-clause-values_after : goal.returns-in_default-clause-values_after
+returns-in_default-clause-values_after c = done_values c.loop-spent.invariant c.loop-spent-test.true c.known-action.ensures.value c.in-Leave.ensures c.in_default.ensures
 
-pub returns-then-depth-eq0-clause-value : goal.returns-then-depth-eq0-clause-value
-returns-then-depth-eq0-clause-value c = search (done_answer, rules)
+pub resumed-top-requires : goal.resumed-top-requires
+resumed-top-requires c = popped_there c.loop-spent.invariant c.loop-spent-test.true c.known-action.ensures.value c.in-Leave.ensures c.in-Some.ensures
 
-pub returns-then-depth-eq0-clause-values_after : goal.returns-then-depth-eq0-clause-values_after
-returns-then-depth-eq0-clause-values_after c = search (done_values, rules)
+pub loop-spent-preserved : goal.loop-spent-preserved
+loop-spent-preserved c =
+    elim c.match-from.branch [
+      | in-Compute w ↦
+          same_turn w.stack-is w.places-is w.top-is w.values-is
+          (turn_compute c.loop-spent.invariant c.loop-spent-test.true c.known-action.ensures.value w.in-Compute.ensures w.start_of.ensures.0 w.compute.ensures)
+      | in-Visit w ↦
+          same_turn w.stack-is w.places-is w.top-is w.values-is
+          (turn_visit c.loop-spent.invariant c.loop-spent-test.true c.known-action.ensures.value w.in-Visit.ensures w.push.ensures.depth_is w.push.ensures.nodes_are w.push.ensures.marks_are
+          w.child_top-top.ensures)
+      | in-Leave+in-Some w ↦
+          same_turn w.stack-is w.places-is w.top-is w.values-is
+          (popped_turn c.loop-spent.invariant c.loop-spent-test.true c.known-action.ensures.value w.in-Leave.ensures w.first_action.ensures w.in-Some.ensures w.resumed-top.ensures)
+    ]
 
-pub node_below-below-requires : goal.node_below-below-requires
-node_below-below-requires c = (search rules, parent_there c.loop-left.invariant c.if-left-eq0.false c.known-action.ensures.value (omega arith) c.if-depth-eq0.false)
+pub returns-clause-value : goal.returns-clause-value
+returns-clause-value c = search stopped_answer
 
-pub loop-left-preserved : goal.loop-left-preserved
-loop-left-preserved c = turn_leave c.loop-left.invariant c.if-left-eq0.false c.known-action.ensures.value (omega arith) c.if-depth-eq0.false
-    c.first_action.ensures c.node_below-below.ensures
+pub returns-clause-values_after : goal.returns-clause-values_after
+returns-clause-values_after c = search stopped_values

@@ -2,8 +2,8 @@
 use Rattle.exports.proofs.TellLaws.{plan_accepted, plan_refused}
 use Rattle.exports.proofs.skarnuth_plan.Goals as goal
 
-pub returns-in-Accepted : goal.returns-in-Accepted
-returns-in-Accepted c = search plan_accepted
+pub returns-in-Ok : goal.returns-in-Ok
+returns-in-Ok c = search plan_accepted
 
-pub returns-in-Refused : goal.returns-in-Refused
-returns-in-Refused c = search plan_refused
+pub returns-in-Err : goal.returns-in-Err
+returns-in-Err c = search plan_refused

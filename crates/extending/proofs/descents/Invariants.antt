@@ -1,5 +1,5 @@
 -- The invariant: of the arcs below k, those that lead down are in the set.
-use Prim.Native.Nat.{◌≤◌, ◌-◌, ◌*◌}
+use Prim.Native.Nat.{◌≤◌, ◌*◌}
 use mathlib.Core.Path.{◌≡◌}
 use Rattle.bits.specs.Bit.{collect}
 use Rattle.extending.specs.Descents.{descends}
@@ -7,6 +7,3 @@ use Rattle.extending.proofs.descents.Given as goal
 
 abbrev pub invariant-loop-k : goal.invariant-loop-k
 invariant-loop-k l = (l.k ≤ 8 * l.count) × (l.arcs ≡ collect l.k (λ k. descends l.sets l.p l.count k))
-
-abbrev pub decreases-loop-k : goal.decreases-loop-k
-decreases-loop-k l = 8 * l.count - l.k

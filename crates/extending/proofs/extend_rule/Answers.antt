@@ -1,4 +1,5 @@
 -- The arcs that lead down stand between occurrences of the rule, so they can be added at its positions.
+use Rattle.access.proofs.TableLaws.{rule_in}
 use Rattle.access.proofs.Accessors.{rule_small, rule_near, rule_shaped}
 use Rattle.inducing.proofs.HoldsLaws.{kept_here}
 use Rattle.inducing.proofs.RuleRowLaws.{rule_ruled}
@@ -6,19 +7,19 @@ use Rattle.extending.proofs.ExtendLaws.{down_fits, down_closes}
 use Rattle.extending.proofs.extend_rule.Goals as goal
 
 pub rule_at-p-requires : goal.rule_at-p-requires
-rule_at-p-requires c = search rule_small
+rule_at-p-requires c = search (rule_small, rule_in c.args.table.now _ c.requires.inside)
 
 pub occurrence_set-among-requires : goal.occurrence_set-among-requires
-occurrence_set-among-requires c = search (rule_near, rule_shaped)
+occurrence_set-among-requires c = search (rule_near, rule_shaped, rule_in c.args.table.now _ c.requires.inside)
 
 pub spread-requires-clause-ruled : goal.spread-requires-clause-ruled
-spread-requires-clause-ruled c = search rule_ruled
+spread-requires-clause-ruled c = search (rule_ruled, rule_in c.args.table.now _ c.requires.inside)
 
 pub spread-requires-clause-arcs_fit : goal.spread-requires-clause-arcs_fit
-spread-requires-clause-arcs_fit c = search down_fits
+spread-requires-clause-arcs_fit c = search (down_fits, rule_in c.args.table.now _ c.requires.inside)
 
 pub spread-requires-clause-kept : goal.spread-requires-clause-kept
-spread-requires-clause-kept c = search kept_here
+spread-requires-clause-kept c = search (kept_here, rule_in c.args.table.now _ c.requires.inside)
 
 pub returns : goal.returns
-returns c = search down_closes
+returns c = search (down_closes, rule_in c.args.table.now _ c.requires.inside)

@@ -1,5 +1,5 @@
 -- The search goes through the rules and in each through its occurrences, and is left at the first that leads back to itself. So every rule
--- before it has no cycle, and no lower occurrence of its rule lies on one. The measures are the rules and the occurrences that are left.
+-- before it has no cycle, and no lower occurrence of its rule lies on one.
 use borrow.Author.Rules.{rules}
 use Rattle.inducing.proofs.CycleLaws.{row_start, row_passed, rules_start, rule_passed, search_none, search_found}
 use Rattle.inducing.proofs.find_cycle.Goals as goal

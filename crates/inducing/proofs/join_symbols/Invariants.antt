@@ -1,11 +1,8 @@
 -- The invariant: the arcs of the symbols at the first i positions are there.
-use Prim.Native.Nat.{◌+◌, ◌≤◌, ◌-◌}
+use Prim.Native.Nat.{◌+◌, ◌≤◌}
 use Rattle.inducing.specs.Closes.{Joined}
 use Rattle.inducing.specs.Arcs.{SpreadArc}
 use Rattle.inducing.proofs.join_symbols.Given as goal
 
 abbrev pub invariant-loop-i : goal.invariant-loop-i
 invariant-loop-i l = (l.i ≤ l.n + 1) × Joined l.initial.rows 0 l.base (SpreadArc l.words l.p l.arcs l.i) l.rows l.starts
-
-abbrev pub decreases-loop-i : goal.decreases-loop-i
-decreases-loop-i l = l.n + 1 - l.i

@@ -1,13 +1,8 @@
 -- `lister::list` meets its contract: no more than the first 65,536 bytes are looked at, and they are listed. Assumes nothing.
+use Rattle.lister.proofs.TableLaws.{looked_text}
 use mathlib.Core.Path.{refl}
-use Rattle.lister.proofs.TableLaws.{looked_length, looked_text}
+use Rattle.std.proofs.Common.{rules}
 use Rattle.lister.proofs.list.Goals as goal
 
-pub slice_bounds-list_bytes-end : goal.slice_bounds-list_bytes-end
-slice_bounds-list_bytes-end c = (looked_length _ _ _ _ c.looked_at-n.ensures refl).0
-
-pub list_bytes-requires : goal.list_bytes-requires
-list_bytes-requires c = (looked_length _ _ _ _ c.looked_at-n.ensures refl).1
-
 pub returns : goal.returns
-returns c = search looked_text
+returns c = looked_text c.args.input.now _ _ _ c.min-n.ensures refl refl c.list_bytes.ensures (search (rules, c.list_bytes.ensures.same_buffer))

@@ -1,10 +1,6 @@
--- `lister::little_endian` meets its contract: the invariant is that the first i words are written, each of its two bytes. Assumes nothing.
-use Prim.Native.Nat.{◌-◌}
-use Rattle.lister.proofs.TableLaws.{Words}
+-- `lister::little_endian` meets its contract: the invariant is that the words of the pairs so far are written. Assumes nothing.
+use Rattle.lister.proofs.TableLaws.{Pairs}
 use Rattle.lister.proofs.little_endian.Given as goal
 
 abbrev pub invariant-loop-i : goal.invariant-loop-i
-invariant-loop-i l = Words l.bytes l.initial.words l.words l.i
-
-abbrev pub decreases-loop-i : goal.decreases-loop-i
-decreases-loop-i l = l.i-end - l.i
+invariant-loop-i l = Pairs l.bytes l.initial.words l.words l.i-iterator.iter.size l.i-iterator.iter.rest.now l.i-iterator.count

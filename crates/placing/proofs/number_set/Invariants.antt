@@ -2,8 +2,5 @@
 use Rattle.placing.proofs.TakenLaws.{Numbering}
 use Rattle.placing.proofs.number_set.Given as goal
 
-abbrev pub invariant-loop-left : goal.invariant-loop-left
-invariant-loop-left l = Numbering l.initial.sets l.at l.taken l.k l.sets l.left
-
-abbrev pub decreases-loop-left : goal.decreases-loop-left
-decreases-loop-left l = l.left
+abbrev pub invariant-loop-a : goal.invariant-loop-a
+invariant-loop-a l = Numbering l.initial.sets l.at l.taken l.k l.sets l.a-iterator.left

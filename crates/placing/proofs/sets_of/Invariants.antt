@@ -1,10 +1,6 @@
 -- The invariant: the first x symbols have their set words, and all other words are 0.
-use Prim.Native.Nat.{◌-◌}
 use Rattle.placing.proofs.SetsLaws.{SetsTo}
 use Rattle.placing.proofs.sets_of.Given as goal
 
 abbrev pub invariant-loop-x : goal.invariant-loop-x
 invariant-loop-x l = SetsTo l.words l.ids l.sets l.x
-
-abbrev pub decreases-loop-x : goal.decreases-loop-x
-decreases-loop-x l = l.symbols - l.x

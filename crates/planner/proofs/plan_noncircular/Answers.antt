@@ -11,10 +11,10 @@ pub extend-requires-clause-words_in_bounds : goal.extend-requires-clause-words_i
 extend-requires-clause-words_in_bounds c = search rows_room
 
 pub find_cycle-edp_cycle-requires : goal.find_cycle-edp_cycle-requires
-find_cycle-edp_cycle-requires c = (search few_rules, search search_room)
+find_cycle-edp_cycle-requires c = (search (few_rules, c.args.table.now.accepted), search search_room)
 
-pub returns-in-At : goal.returns-in-At
-returns-in-At c = search ten_came
+pub returns-in-Some : goal.returns-in-Some
+returns-in-Some c = search ten_came
 
 pub write_plan-requires : goal.write_plan-requires
 write_plan-requires c = search (
@@ -29,6 +29,7 @@ write_plan-requires c = search (
 pub returns : goal.returns
 returns c = search (
   plan_came,
+  c.args.table.now.accepted,
   c.requires,
   c.rules-rules.ensures.value,
   c.extend.ensures,

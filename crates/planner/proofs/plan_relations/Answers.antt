@@ -4,14 +4,14 @@ use Rattle.planner.proofs.RoomLaws.{rows_room}
 use Rattle.planner.proofs.StageLaws.{few_rules, search_room, nine_came, noncircular, noncircular_came}
 use Rattle.planner.proofs.plan_relations.Goals as goal
 
-pub induce-ids-requires-clause-words_in_bounds : goal.induce-ids-requires-clause-words_in_bounds
-induce-ids-requires-clause-words_in_bounds c = search rows_room
+pub induce-ids-requires : goal.induce-ids-requires
+induce-ids-requires c = search rows_room
 
 pub find_cycle-idp_cycle-requires : goal.find_cycle-idp_cycle-requires
-find_cycle-idp_cycle-requires c = (search few_rules, search search_room)
+find_cycle-idp_cycle-requires c = (search (few_rules, c.args.table.now.accepted), search search_room)
 
-pub returns-in-At : goal.returns-in-At
-returns-in-At c = search nine_came
+pub returns-in-Some : goal.returns-in-Some
+returns-in-Some c = search nine_came
 
 pub plan_noncircular-requires : goal.plan_noncircular-requires
 plan_noncircular-requires c = search (

@@ -7,7 +7,7 @@ pub write-requires : goal.write-requires
 write-requires c = search (write_room, rules)
 
 pub by_visit-by-requires-clause-words_bound : goal.by_visit-by-requires-clause-words_bound
-by_visit-by-requires-clause-words_bound c = search by_symbols
+by_visit-by-requires-clause-words_bound c = search (by_symbols, c.args.table.now.accepted)
 
 pub by_visit-by-requires-clause-few_visits : goal.by_visit-by-requires-clause-few_visits
 by_visit-by-requires-clause-few_visits c = search by_few
@@ -16,10 +16,10 @@ pub loop-r-init : goal.loop-r-init
 loop-r-init c = search plan_start
 
 pub rule_at-requires : goal.rule_at-requires
-rule_at-requires c = search plan_rule
+rule_at-requires c = search (plan_rule, c.args.table.now.accepted)
 
 pub sequence-requires-clause-rule_given : goal.sequence-requires-clause-rule_given
-sequence-requires-clause-rule_given c = search (plan_given, c.loop-r.invariant, c.by_visit-by.ensures, c.rules-count.ensures.value, c.loop-r-test.true, c.rule_at.ensures)
+sequence-requires-clause-rule_given c = search (plan_given, c.args.table.now.accepted, c.args.table.now.placed, c.loop-r.invariant, c.by_visit-by.ensures, c.rules-count.ensures.value, c.loop-r-test.true, c.rule_at.ensures)
 
 pub sequence-requires-clause-words_in_bounds : goal.sequence-requires-clause-words_in_bounds
 sequence-requires-clause-words_in_bounds c = search (plan_fits, c.loop-r.invariant)

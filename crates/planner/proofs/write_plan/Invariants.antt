@@ -1,10 +1,6 @@
 -- `planner::write_plan` meets its contract: after r turns the set words and the sequences of the first r rules are written. Assumes nothing.
-use Prim.Native.Nat.{◌-◌}
 use Rattle.planner.proofs.WriteLaws.{PlanTo}
 use Rattle.planner.proofs.write_plan.Given as goal
 
 abbrev pub invariant-loop-r : goal.invariant-loop-r
-invariant-loop-r l = PlanTo l.words l.offsets l.sets l.rows l.initial.plan l.plan l.r
-
-abbrev pub decreases-loop-r : goal.decreases-loop-r
-decreases-loop-r l = l.count - l.r
+invariant-loop-r l = PlanTo l.words l.sets l.rows l.initial.plan l.plan l.r

@@ -1,12 +1,9 @@
 -- `reading::read` meets its contract: an opening that is refused answers, and else the rules do. Assumes nothing.
-use Rattle.reading.proofs.RuleLoop.{opening_answers, opening_offsets, opened}
+use Rattle.reading.proofs.RuleLoop.{opening_answers, opened}
 use Rattle.reading.proofs.read.Goals as goal
 
-pub returns-in_default-clause-verdict_value : goal.returns-in_default-clause-verdict_value
-returns-in_default-clause-verdict_value c = search opening_answers
-
-pub returns-in_default-clause-offsets_value : goal.returns-in_default-clause-offsets_value
-returns-in_default-clause-offsets_value c = search opening_offsets
+pub returns-in_err-opening_fault : goal.returns-in_err-opening_fault
+returns-in_err-opening_fault c = search (opening_answers, c.in_err-opening_fault.was, c.from_residual.ensures.1)
 
 pub read_rules-requires : goal.read_rules-requires
-read_rules-requires c = search opened
+read_rules-requires c = search (opened, c.in_ok-opening_fault.was)

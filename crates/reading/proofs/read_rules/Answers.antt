@@ -7,20 +7,21 @@ use Rattle.reading.proofs.read_rules.Goals as goal
 pub loop-r-init : goal.loop-r-init
 loop-r-init c = search start
 
-pub rule_fault-rule-requires-clause-p_bound : goal.rule_fault-rule-requires-clause-p_bound
-rule_fault-rule-requires-clause-p_bound c = omega arith
+pub read_rule-requires-clause-p_bound : goal.read_rule-requires-clause-p_bound
+read_rule-requires-clause-p_bound c = omega arith
 
-pub rule_fault-rule-requires-clause-symbols : goal.rule_fault-rule-requires-clause-symbols
-rule_fault-rule-requires-clause-symbols c = search symbols_formed
+pub read_rule-requires-clause-symbols : goal.read_rule-requires-clause-symbols
+read_rule-requires-clause-symbols c = search symbols_formed
 
-pub returns-in_default : goal.returns-in_default
-returns-in_default c = search rule_stops
+pub returns-in_err-rule : goal.returns-in_err-rule
+returns-in_err-rule c = search (rule_stops, c.in_err-rule.ensures, c.from_residual.ensures.1)
 
 pub loop-r-preserved : goal.loop-r-preserved
-loop-r-preserved c = search turn
+loop-r-preserved c = search (turn, c.in_ok-rule.ensures)
 
-pub returns-in_default-ending : goal.returns-in_default-ending
-returns-in_default-ending c = search ending_stops
+pub returns-in_err-ending_fault : goal.returns-in_err-ending_fault
+returns-in_err-ending_fault c =
+    search (ending_stops, c.in_err-ending_fault.was, c.from_residual-in_err-ending_fault.ensures.1)
 
 pub returns : goal.returns
-returns c = search all_read
+returns c = search (all_read, c.in_ok-ending_fault.was)

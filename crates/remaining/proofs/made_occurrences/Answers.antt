@@ -7,8 +7,8 @@ use Rattle.remaining.proofs.made_occurrences.Goals as goal
 pub loop-i-init : goal.loop-i-init
 loop-i-init c = search (making_start, rules)
 
-pub made_attributes-there-requires-clause-x_bound_2 : goal.made_attributes-there-requires-clause-x_bound_2
-made_attributes-there-requires-clause-x_bound_2 c = search (making_small, rules)
+pub made_attributes-there-requires-clause-few_attributes : goal.made_attributes-there-requires-clause-few_attributes
+made_attributes-there-requires-clause-few_attributes c = search (making_small, rules)
 
 pub raised-requires : goal.raised-requires
 raised-requires c = (search making_block, search making_place)

@@ -7,8 +7,8 @@ use Rattle.remaining.proofs.of_children.Goals as goal
 pub loop-i-init : goal.loop-i-init
 loop-i-init c = search (calling_start, rules)
 
-pub bounds-by-from : goal.bounds-by-from
-bounds-by-from c = search calling_low
+pub bounds-kept-symbol_of : goal.bounds-kept-symbol_of
+bounds-kept-symbol_of c = search calling_low
 
 pub raised-requires : goal.raised-requires
 raised-requires c = (search calling_block, search calling_place)

@@ -31,8 +31,8 @@ returns-then-ready-ne0-clause-along_2 c = search along_kept
 pub visit-visited-requires-clause-p_bound : goal.visit-visited-requires-clause-p_bound
 visit-visited-requires-clause-p_bound c = (search place_small, (search rules, search visit_few))
 
-pub visit-visited-requires-clause-b_bound : goal.visit-visited-requires-clause-b_bound
-visit-visited-requires-clause-b_bound c = search visit_child
+pub visit-visited-requires-clause-symbol_small : goal.visit-visited-requires-clause-symbol_small
+visit-visited-requires-clause-symbol_small c = search visit_child
 
 pub unblocked-requires-clause-most_occurrences_in_bounds : goal.unblocked-requires-clause-most_occurrences_in_bounds
 unblocked-requires-clause-most_occurrences_in_bounds c = search rows_room
@@ -58,8 +58,8 @@ first-requires-2 c = search (leave_ready_then, rules)
 pub leave-left-requires-clause-p_bound : goal.leave-left-requires-clause-p_bound
 leave-left-requires-clause-p_bound c = (search place_small, search leave_inside)
 
-pub leave-left-requires-clause-p_bound_2 : goal.leave-left-requires-clause-p_bound_2
-leave-left-requires-clause-p_bound_2 c = search left_low
+pub leave-left-requires-clause-left_small : goal.leave-left-requires-clause-left_small
+leave-left-requires-clause-left_small c = search left_low
 
 pub unblocked-requires-2-clause-most_occurrences_in_bounds : goal.unblocked-requires-2-clause-most_occurrences_in_bounds
 unblocked-requires-2-clause-most_occurrences_in_bounds c = search rows_room

@@ -23,8 +23,8 @@ unblocked-ready-requires-clause-rows_closed c = search rows_closed
 pub loop-j-init : goal.loop-j-init
 loop-j-init c = search writing_start
 
-pub next-turn-requires-clause-in_bounds : goal.next-turn-requires-clause-in_bounds
-next-turn-requires-clause-in_bounds c = search (writing_left, rules)
+pub next-turn-requires-clause-some_left : goal.next-turn-requires-clause-some_left
+next-turn-requires-clause-some_left c = search (writing_left, rules)
 
 pub loop-j-preserved : goal.loop-j-preserved
 loop-j-preserved c = search (writing_turn, rules)

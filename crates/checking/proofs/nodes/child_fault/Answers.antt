@@ -2,8 +2,8 @@
 use Rattle.checking.proofs.NodeTestLaws.{children_passed, children_refused}
 use Rattle.checking.proofs.nodes.child_fault.Goals as goal
 
-pub returns-then-children_fit : goal.returns-then-children_fit
-returns-then-children_fit c = search children_passed
+pub returns-then-not-children_fit : goal.returns-then-not-children_fit
+returns-then-not-children_fit c = search children_refused
 
 pub returns : goal.returns
-returns c = search children_refused
+returns c = search children_passed

@@ -9,5 +9,5 @@ returns-then-r-lt-TERMINAL_MARK c = search known_rule
 pub returns-then-x-symbols : goal.returns-then-x-symbols
 returns-then-x-symbols c = search known_terminal
 
-pub returns : goal.returns
-returns c = search known_nothing
+pub returns-else-x-symbols : goal.returns-else-x-symbols
+returns-else-x-symbols c = search known_nothing

@@ -1,12 +1,10 @@
--- `checking::one_walk::is_new` meets its contract: each way out is one of the three tests. Assumes nothing.
-use Rattle.checking.proofs.OneWalkLaws.{new_low, new_past, new_tested}
+-- `checking::one_walk::is_new` meets its contract: the tests are those of the definition, in their order. Assumes nothing.
+use Rattle.checking.proofs.OneWalkLaws.{new_low, new_past, new_tested, new_none}
+use Rattle.checking.proofs.one_walk.is_new.Goals.{then-n-child, else-n-child}
 use Rattle.checking.proofs.one_walk.is_new.Goals as goal
 
-pub returns-then-child-n : goal.returns-then-child-n
-returns-then-child-n c = search new_low
-
 pub returns-then-child-t : goal.returns-then-child-t
-returns-then-child-t c = search new_past
+returns-then-child-t c = elim c.if-n-child.branch [ then-n-child w ↦ search new_tested | else-n-child w ↦ search new_none ]
 
-pub returns : goal.returns
-returns c = search new_tested
+pub returns-else-child-t : goal.returns-else-child-t
+returns-else-child-t c = elim c.if-n-child.branch [ then-n-child w ↦ search new_past | else-n-child w ↦ search new_low ]

@@ -1,29 +1,16 @@
--- `checking::one_walk::terminal_symbol` meets its contract: a terminal that is there passes 13, and uses no slot; each way out with no symbol is a
--- fault. Assumes nothing.
-use borrow.Author.Tests.{not-true, not-false}
-use Rattle.checking.proofs.OneWalkLaws.{terminal_fits, terminal_past, terminal_not, terminal_filled, terminal_always, none_fits}
+-- `checking::one_walk::terminal_symbol` meets its contract: a terminal that is there passes 13, and uses no slot; each test that fails is a fault.
+-- Assumes nothing.
+use Rattle.checking.proofs.OneWalkLaws.{terminal_fits, terminal_past, terminal_not, terminal_filled}
+use Rattle.checking.proofs.one_walk.terminal_symbol.Goals.{then-x-symbols-via-then-x-symbols, then-x-symbols-via-else-x-symbols+then-nonterminal, then-x-symbols-via-else-x-symbols+else-nonterminal+then-not-unused_empty}
 use Rattle.checking.proofs.one_walk.terminal_symbol.Goals as goal
 
-pub returns-then-x-symbols-clause-node_fits : goal.returns-then-x-symbols-clause-node_fits
-returns-then-x-symbols-clause-node_fits c = search none_fits
+pub returns-then-x-symbols : goal.returns-then-x-symbols
+returns-then-x-symbols c =
+    elim c.then-x-symbols.branch [
+      | then-x-symbols-via-then-x-symbols w ↦ search terminal_past
+      | then-x-symbols-via-else-x-symbols+then-nonterminal w ↦ search terminal_not
+      | then-x-symbols-via-else-x-symbols+else-nonterminal+then-not-unused_empty w ↦ search terminal_filled
+    ]
 
-pub returns-then-x-symbols-clause-fact : goal.returns-then-x-symbols-clause-fact
-returns-then-x-symbols-clause-fact c = search terminal_past
-
-pub returns-then-nonterminal-clause-node_fits : goal.returns-then-nonterminal-clause-node_fits
-returns-then-nonterminal-clause-node_fits c = search none_fits
-
-pub returns-then-nonterminal-clause-fact : goal.returns-then-nonterminal-clause-fact
-returns-then-nonterminal-clause-fact c = search terminal_not
-
-pub returns-then-not-unused_empty-clause-node_fits : goal.returns-then-not-unused_empty-clause-node_fits
-returns-then-not-unused_empty-clause-node_fits c = search none_fits
-
-pub returns-then-not-unused_empty-clause-fact : goal.returns-then-not-unused_empty-clause-fact
-returns-then-not-unused_empty-clause-fact c = search (terminal_filled, not-true)
-
-pub returns-clause-node_fits : goal.returns-clause-node_fits
-returns-clause-node_fits c = search (terminal_fits, not-false)
-
-pub returns-clause-fact : goal.returns-clause-fact
-returns-clause-fact c = search terminal_always
+pub returns : goal.returns
+returns c = search terminal_fits

@@ -5,7 +5,4 @@ use Rattle.checking.proofs.OneWalkLaws.{SumTo}
 use Rattle.checking.proofs.one_walk.unused_empty.Given as goal
 
 abbrev pub invariant-loop-i : goal.invariant-loop-i
-invariant-loop-i l = SumTo l.t l.n l.used l.sum l.i
-
-abbrev pub decreases-loop-i : goal.decreases-loop-i
-decreases-loop-i l = 7 - l.i
+invariant-loop-i l = SumTo l.t l.n l.used l.sum (l.i - 1)

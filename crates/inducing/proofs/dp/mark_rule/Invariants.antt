@@ -1,10 +1,7 @@
 -- The invariant: f is the word at which function k starts, and the arcs of the functions before it are marked.
-use Prim.Native.Nat.{◌≤◌, ◌-◌}
+use Prim.Native.Nat.{◌≤◌}
 use Rattle.inducing.proofs.FunctionLaws.{MarkingRule}
 use Rattle.inducing.proofs.dp.mark_rule.Given as goal
 
 abbrev pub invariant-loop-k : goal.invariant-loop-k
 invariant-loop-k l = (l.k ≤ l.count) × MarkingRule l.words l.p l.initial.rows l.base l.k l.f l.rows
-
-abbrev pub decreases-loop-k : goal.decreases-loop-k
-decreases-loop-k l = l.count - l.k

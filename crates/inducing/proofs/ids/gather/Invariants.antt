@@ -1,11 +1,8 @@
 -- The invariant: the arcs at the first i positions are among those of their symbols and no others were put there; and who names a symbol
 -- with a new arc is touched.
-use Prim.Native.Nat.{◌+◌, ◌≤◌, ◌-◌}
+use Prim.Native.Nat.{◌+◌, ◌≤◌}
 use Rattle.inducing.specs.Stale.{Gathering}
 use Rattle.inducing.proofs.ids.gather.Given as goal
 
 abbrev pub invariant-loop-i : goal.invariant-loop-i
 invariant-loop-i l = (l.i ≤ l.n + 1) × Gathering l.words l.p l.rows l.base l.i l.naming l.initial.ids l.ids l.touched
-
-abbrev pub decreases-loop-i : goal.decreases-loop-i
-decreases-loop-i l = l.n + 1 - l.i

@@ -6,7 +6,7 @@ use Rattle.inducing.proofs.StaleLaws.{left_to_do}
 use Rattle.inducing.proofs.ids.settle.Given as goal
 
 abbrev pub invariant-loop-stale : goal.invariant-loop-stale
-invariant-loop-stale l = (l.from ≤ 64) × Stale l.words l.initial.rows (rule_count l.words) l.stale l.rows l.ids
+invariant-loop-stale l = (l.from ≤ 64) × Stale l.table.words.now l.initial.rows (rule_count l.table.words.now) l.stale l.rows l.ids
 
 abbrev pub decreases-loop-stale : goal.decreases-loop-stale
 decreases-loop-stale l = left_to_do l.stale l.ids

@@ -5,5 +5,5 @@ use Rattle.reading.proofs.functions.argument_fits.Goals as goal
 pub returns-then-constant : goal.returns-then-constant
 returns-then-constant c = search or_first
 
-pub returns : goal.returns
-returns c = search or_second
+pub returns-else-constant : goal.returns-else-constant
+returns-else-constant c = search or_second

@@ -3,8 +3,8 @@ use Rattle.reading.proofs.WholeLaws.{target_passes, target_fails}
 use borrow.Author.Rules.{rules}
 use Rattle.reading.proofs.functions.function_words.Goals as goal
 
-pub returns-then-may_define : goal.returns-then-may_define
-returns-then-may_define c = search (target_passes, rules)
+pub returns-then-not-may_define : goal.returns-then-not-may_define
+returns-then-not-may_define c = search (target_fails, rules)
 
 pub returns : goal.returns
-returns c = search (target_fails, rules)
+returns c = search (target_passes, rules)

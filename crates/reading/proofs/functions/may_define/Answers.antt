@@ -5,5 +5,5 @@ use Rattle.reading.proofs.functions.may_define.Goals as goal
 pub returns-then-member : goal.returns-then-member
 returns-then-member c = search and_second
 
-pub returns : goal.returns
-returns c = search and_first
+pub returns-else-member : goal.returns-else-member
+returns-else-member c = search and_first

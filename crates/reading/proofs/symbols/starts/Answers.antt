@@ -5,5 +5,5 @@ use Rattle.reading.proofs.symbols.starts.Goals as goal
 pub returns-then-nonterminal : goal.returns-then-nonterminal
 returns-then-nonterminal c = search (and_second, zero_of)
 
-pub returns : goal.returns
-returns c = search and_first
+pub returns-else-nonterminal : goal.returns-else-nonterminal
+returns-else-nonterminal c = search and_first

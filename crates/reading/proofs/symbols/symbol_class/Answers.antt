@@ -5,5 +5,5 @@ use Rattle.reading.proofs.symbols.symbol_class.Goals as goal
 pub returns-then-nonterminal : goal.returns-then-nonterminal
 returns-then-nonterminal c = search or_first
 
-pub returns : goal.returns
-returns c = search (or_second, zero_of)
+pub returns-else-nonterminal : goal.returns-else-nonterminal
+returns-else-nonterminal c = search (or_second, zero_of)

@@ -5,5 +5,5 @@ use Rattle.reading.proofs.words.unless.Goals as goal
 pub returns-then-test : goal.returns-then-test
 returns-then-test c = search unless_true
 
-pub returns : goal.returns
-returns c = search unless_false
+pub returns-else-test : goal.returns-else-test
+returns-else-test c = search unless_false

@@ -1,6 +1,0 @@
--- `lister::number` meets its contract: a blank, then the digits. Assumes nothing.
-use Rattle.lister.proofs.LineLaws.{blank_number}
-use Rattle.lister.proofs.number.Goals as goal
-
-pub returns : goal.returns
-returns c = search blank_number
