@@ -1,5 +1,5 @@
 // The words of a grammar table by symbol, rule and function.
-// A rule is handed on as the word it starts at, a function too; specs/ByPlace.antt says what each is by that word.
+// A rule is handed on with the word that it starts at, a function as that word; specs/ByPlace.antt says what each is by it.
 #![tactic(auto)]
 
 ghost use Rattle.std.specs.Prelude.{◌≡◌, ◌+◌, ◌*◌, ◌^◌, ◌≤◌, ◌<◌, length, get_or};
@@ -29,7 +29,84 @@ impl Table<'_> {
         requires { r < most_rules }
         ensures { result ≡ get_or self.now.offsets r 0 }
     {
-        wide(self.offsets[r])
+        usize::from(self.offsets[r])
+    }
+}
+
+// The rule that starts at word `at` of a table's words.
+#[derive(Clone, Copy)]
+pub struct Rule<'a> {
+    pub words: &'a [u16],
+    pub at: usize,
+    ghost near: { at < 65536 },
+}
+
+impl Rule<'_> {
+    // Its right length.
+    pub fn right_length(&self) -> usize
+        ensures value { result ≡ table.length_at self.now.words.now self.now.at }
+        ensures upper_bound { result < 65536 }
+    {
+        word(self.words, self.at + 1)
+    }
+
+    // The symbol at a position: 0 is the left side.
+    pub fn symbol(&self, i: usize) -> usize
+        requires { i < 65536 }
+        ensures value { result ≡ places.symbol_from self.now.words.now self.now.at i }
+        ensures upper_bound { result < 65536 }
+    {
+        if i == 0 {
+            return word(self.words, self.at);
+        }
+        word(self.words, self.at + 1 + i)
+    }
+
+    // How many functions it has, and where the first one starts.
+    pub fn function_count(&self) -> usize
+        ensures value { result ≡ table.functions_at self.now.words.now self.now.at }
+        ensures upper_bound { result < 65536 }
+    {
+        word(self.words, self.at + 2 + self.right_length())
+    }
+
+    pub fn first_function(&self) -> usize
+        ensures value { result ≡ table.function_at self.now.words.now self.now.at 0 }
+        ensures upper_bound { result < 131075 }
+    {
+        self.at + 3 + self.right_length()
+    }
+
+    // Its occurrences, as a set.
+    pub fn occurrences(&self) -> u64
+        requires { places.Shaped self.now.words.now self.now.at }
+        ensures { result ≡ places.occurrences_at self.now.words.now self.now.at }
+    {
+        let n = self.right_length();
+        let mut set = attribute_set(self.words, word(self.words, self.at));
+        for i in 0..n {
+            let block = attribute_set(self.words, word(self.words, self.at + 2 + i));
+            set = bits::union(placed(block, i + 1), set);
+        }
+        set
+    }
+
+    // Its defining occurrences: synthesized on the left side, inherited on the right.
+    pub fn definings(&self) -> u64
+        requires { places.Shaped self.now.words.now self.now.at }
+        ensures { result ≡ places.definings_at self.now.words.now self.now.at }
+    {
+        let n = self.right_length();
+        let left = word(self.words, self.at);
+        let mut set = bits::minus(
+            attribute_set(self.words, left),
+            inherited_set(self.words, left),
+        );
+        for i in 0..n {
+            let block = inherited_set(self.words, word(self.words, self.at + 2 + i));
+            set = bits::union(placed(block, i + 1), set);
+        }
+        set
     }
 }
 
@@ -39,16 +116,9 @@ pub fn word(words: &[u16], p: usize) -> usize
     ensures upper_bound { result < 65536 }
 {
     if p < words.len() {
-        return words[p] as usize;
+        return usize::from(words[p]);
     }
     0
-}
-
-// A word as an index.
-fn wide(x: u16) -> usize
-    ensures { (result ≡ x) × (result < 65536) }
-{
-    x as usize
 }
 
 // The word at a place that is there. The code that runs once a table or a tree is accepted knows its length, and tests it no more.
@@ -57,7 +127,7 @@ pub fn known(words: &[u16], p: usize) -> usize
     ensures value { result ≡ get_or words.now p 0 }
     ensures upper_bound { result < 65536 }
 {
-    wide(words[p])
+    usize::from(words[p])
 }
 
 // How many symbols and rules the table has, and its start symbol.
@@ -114,43 +184,6 @@ pub fn nonterminal(words: &[u16], x: usize) -> bool
     kind(words, x) == 0
 }
 
-// The rule at word p: its right length, the symbol at a position, how many functions, and where the first one starts.
-pub fn right_length(words: &[u16], p: usize) -> usize
-    requires { p < 65536 }
-    ensures value { result ≡ table.length_at words.now p }
-    ensures upper_bound { result < 65536 }
-{
-    word(words, p + 1)
-}
-
-pub fn symbol_of(words: &[u16], p: usize, i: usize) -> usize
-    requires p_bound { p < 65536 }
-    requires i_bound { i < 65536 }
-    ensures value { result ≡ places.symbol_from words.now p i }
-    ensures upper_bound { result < 65536 }
-{
-    if i == 0 {
-        return word(words, p);
-    }
-    word(words, p + 1 + i)
-}
-
-pub fn function_count(words: &[u16], p: usize) -> usize
-    requires { p < 65536 }
-    ensures value { result ≡ table.functions_at words.now p }
-    ensures upper_bound { result < 65536 }
-{
-    word(words, p + 2 + right_length(words, p))
-}
-
-pub fn first_function(words: &[u16], p: usize) -> usize
-    requires { p < 65536 }
-    ensures value { result ≡ table.function_at words.now p 0 }
-    ensures upper_bound { result < 131075 }
-{
-    p + 3 + right_length(words, p)
-}
-
 // How many argument words an operation has.
 pub fn argument_words(op: usize) -> usize
     ensures value { result ≡ table.argument_words op }
@@ -189,7 +222,7 @@ fn placed(attributes: u64, i: usize) -> u64
 // All attributes of a symbol, as a set.
 fn attribute_set(words: &[u16], x: usize) -> u64
     requires x_bound { x < 65536 }
-    requires x_bound_2 { table.attributes words.now x ≤ 8 }
+    requires few_attributes { table.attributes words.now x ≤ 8 }
     ensures { result ≡ bit.below (table.attributes words.now x) }
 {
     bits::below(attributes(words, x))
@@ -201,35 +234,4 @@ pub fn inherited_set(words: &[u16], x: usize) -> u64
     ensures { result ≡ table.mask words.now x }
 {
     mask(words, x) as u64
-}
-
-// The occurrences of the rule at word p, as a set.
-pub fn occurrence_set(words: &[u16], p: usize) -> u64
-    requires p_bound { p < 65536 }
-    requires shaped { places.Shaped words.now p }
-    ensures { result ≡ places.occurrences_at words.now p }
-{
-    let n = right_length(words, p);
-    let mut set = attribute_set(words, word(words, p));
-    for i in 0..n {
-        let block = attribute_set(words, word(words, p + 2 + i));
-        set = bits::union(placed(block, i + 1), set);
-    }
-    set
-}
-
-// Its defining occurrences: synthesized on the left side, inherited on the right.
-pub fn defining_set(words: &[u16], p: usize) -> u64
-    requires p_bound { p < 65536 }
-    requires shaped { places.Shaped words.now p }
-    ensures { result ≡ places.definings_at words.now p }
-{
-    let n = right_length(words, p);
-    let left = word(words, p);
-    let mut set = bits::minus(attribute_set(words, left), inherited_set(words, left));
-    for i in 0..n {
-        let block = inherited_set(words, word(words, p + 2 + i));
-        set = bits::union(placed(block, i + 1), set);
-    }
-    set
 }

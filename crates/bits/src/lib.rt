@@ -84,13 +84,6 @@ pub fn minus(a: u64, b: u64) -> u64
     a & !b
 }
 
-// A count of bits, as a number of the type that a place has.
-fn place(n: u32) -> usize
-    ensures { result ≡ n }
-{
-    n as usize
-}
-
 // The eight places from number n on, as a set of numbers below 8.
 pub fn field(set: u64, n: usize) -> u64
     requires { n ≤ 56 }
@@ -111,21 +104,21 @@ pub fn raised(set: u64, n: usize) -> u64
 fn lowest(set: u64) -> usize
     ensures { result ≡ sets.lowest 64 set }
 {
-    place(u64::trailing_zeros(set))
+    set.trailing_zeros() as usize
 }
 
 // How many members the set has.
 pub fn count(set: u64) -> usize
     ensures { result ≡ sets.count 64 set }
 {
-    place(u64::count_ones(set))
+    set.count_ones() as usize
 }
 
 // The least number above all members.
 pub fn end(set: u64) -> usize
     ensures { End set result }
 {
-    64 - place(u64::leading_zeros(set))
+    64 - set.leading_zeros() as usize
 }
 
 // The lowest member of a set that is not empty.

@@ -1,6 +1,6 @@
 -- Closing rows by some middles after others. Once m was a middle, a path to m and one from m are one path, and later middles keep it so:
 -- if both parts go by way of later ones, so does the whole. Assumes nothing.
-use Prim.Native.Nat.{ℕ, ◌+◌, ◌-◌, ◌*◌, ◌/◌, ◌^◌, ◌≤◌, ◌<◌}
+use Prim.Native.Nat.{ℕ, ◌-◌, ◌*◌, ◌/◌, ◌^◌, ◌<◌}
 use mathlib.Core.Path.{◌≡◌, refl, sym, ◌∙◌, ap, subst, subst⁻¹}
 use mathlib.Core.Logic.{◌⊎◌, inl, inr, ⊎_elim}
 use mathlib.Core.Bool.{Bool, not}
@@ -40,24 +40,24 @@ single_only m i t =
     ⊎_elim (λ e. e) (λ n. absurd (T_not (hasb i (2 ^ m)) (false_T _ (bit_lacks i (2 ^ m) (bit_single_other i m n))) t)) (same_or_not i m)
 
 -- it is closed already
-alone : (rows : List ℕ) (base here m : ℕ) → ((i : ℕ) → T (hasb i here) → i ≡ m) → Closure rows base here rows
-alone rows base here m only =
-    record { size = refl; outside = λ j out. refl; idle = λ o n. refl; sound = λ o x i t. Path⁺.one (i, t); has = λ o x p. along p }
+alone : (rows : List ℕ) (here m : ℕ) → ((i : ℕ) → T (hasb i here) → i ≡ m) → Closure rows here rows
+alone rows here m only =
+    record { size = refl; idle = λ o n. refl; sound = λ o x i t. Path⁺.one (i, t); has = λ o x p. along p }
   where
-    along : {o x : ℕ} → Path⁺ (ArcOf rows base here) o x → T (leads rows base o x)
+    along : {o x : ℕ} → Path⁺ (ArcOf rows here) o x → T (leads rows o x)
     along (Path⁺.one s) = s.1
     along (Path⁺.more {a = a} {b = b} {c = c} p s) =
-        subst (λ (y : ℕ). T (leads rows base y c)) (only b s.0 ∙ sym (only a (path_first p).1.0)) s.1
+        subst (λ (y : ℕ). T (leads rows y c)) (only b s.0 ∙ sym (only a (path_first p).1.0)) s.1
 
 -- as the code meets it: nothing but the first is there
-pub lone_step : (rows : List ℕ) (base count here m rest : ℕ) (after : List ℕ) → First here m → rest ≡ remove (lowest 64 here) here → rest ≡ 0
-    → Anew rows base (row_by m (word rows (base + m))) count after → Stepped rows base count here after
-lone_step rows base count here m rest after f e z v =
+pub lone_step : (rows : List ℕ) (count here m rest : ℕ) (after : List ℕ) → First here m → rest ≡ remove (lowest 64 here) here → rest ≡ 0
+    → Anew rows (row_by m (word rows m)) count after → Stepped rows count here after
+lone_step rows count here m rest after f e z v =
     record {
       between = rows;
-      closure = alone rows base here m only;
-      becomes = row_by m (word rows (base + m));
-      gets = by_gets rows base here m (true_T _ (bit_has m here f.member)) only;
+      closure = alone rows here m only;
+      becomes = row_by m (word rows m);
+      gets = by_gets rows here m (true_T _ (bit_has m here f.member)) only;
       anew = v;
     }
   where
@@ -68,14 +68,14 @@ lone_step rows base count here m rest after f e z v =
 
 -- ---- some of four middles
 
-pub four_step : (rows : List ℕ) (base here k count : ℕ) (four unions after : List ℕ) → OfFour k here → Closed rows base here k four
-    → Unions four 16 unions → Anew rows base (row_by_four k unions) count after → Stepped rows base count here after
-four_step rows base here k count four unions after some w u v =
+pub four_step : (rows : List ℕ) (here k count : ℕ) (four unions after : List ℕ) → OfFour k here → Closed rows here k four
+    → Unions four 16 unions → Anew rows (row_by_four k unions) count after → Stepped rows count here after
+four_step rows here k count four unions after some w u v =
     record {
       between = w.between;
       closure = w.closure;
       becomes = row_by_four k unions;
-      gets = four_gets w.between base here k four unions some w.four_rows u;
+      gets = four_gets w.between here k four unions some w.four_rows u;
       anew = v;
     }
 
@@ -114,24 +114,22 @@ module _ (left m k four here : ℕ) (f : First left m) (e : k ≡ m / 4 * 4) (h 
 -- ---- all middles
 
 -- The invariant: the rows have the arcs and nothing but paths, and paths meet at each middle that is done.
-pub record Closing (before : List ℕ) (base among left : ℕ) (rows : List ℕ) : Type 0 where
-  pub room : base + 64 ≤ length before
+pub record Closing (before : List ℕ) (among left : ℕ) (rows : List ℕ) : Type 0 where
+  pub room : length before ≡ 64
   pub size : length rows ≡ length before
-  pub outside : (j : ℕ) → (j < base) ⊎ (base + 64 ≤ j) → word rows j ≡ word before j
-  pub idle : (o : ℕ) → T (not (hasb o among)) → word rows (base + o) ≡ word before (base + o)
+  pub idle : (o : ℕ) → T (not (hasb o among)) → word rows o ≡ word before o
   pub within : (o : ℕ) → T (hasb o left) → T (hasb o among)
-  pub keeps : (o x : ℕ) → T (hasb o among) → T (leads before base o x) → T (leads rows base o x)
-  pub sound : (o x : ℕ) → T (hasb o among) → T (leads rows base o x) → Path⁺ (ArcOf before base among) o x
-  pub meets : (o j x : ℕ) → T (hasb o among) → T (hasb j among) → T (not (hasb j left)) → T (leads rows base o j) → T (leads rows base j x)
-      → T (leads rows base o x)
+  pub keeps : (o x : ℕ) → T (hasb o among) → T (leads before o x) → T (leads rows o x)
+  pub sound : (o x : ℕ) → T (hasb o among) → T (leads rows o x) → Path⁺ (ArcOf before among) o x
+  pub meets : (o j x : ℕ) → T (hasb o among) → T (hasb j among) → T (not (hasb j left)) → T (leads rows o j) → T (leads rows j x)
+      → T (leads rows o x)
 
-module _ (before : List ℕ) (base among : ℕ) where
-  pub closing_start : (middles : ℕ) → base + 64 ≤ length before → Meeting before base among middles → Closing before base among middles before
+module _ (before : List ℕ) (among : ℕ) where
+  pub closing_start : (middles : ℕ) → length before ≡ 64 → Meeting before among middles → Closing before among middles before
   closing_start middles h w =
       record {
         room = h;
         size = refl;
-        outside = λ j out. refl;
         idle = λ o n. refl;
         within = w.within;
         keeps = λ o x i t. t;
@@ -140,69 +138,68 @@ module _ (before : List ℕ) (base among : ℕ) where
       }
 
   -- A step by way of some middles: they are closed among themselves, and then every row that leads to one of them gets what that one leads to.
-  module _ (rows : List ℕ) (left here next : ℕ) (mid after : List ℕ) (w : Closing before base among left rows) (c : Closure rows base here mid)
-      (v : Through mid base among here after)
+  module _ (rows : List ℕ) (left here next : ℕ) (mid after : List ℕ) (w : Closing before among left rows) (c : Closure rows here mid)
+      (v : Through mid among here after)
       (inside : (m : ℕ) → T (hasb m here) → T (hasb m left)) (still_left : (m : ℕ) → T (hasb m next) → T (hasb m left))
       (done : (m : ℕ) → T (not (hasb m next)) → T (hasb m here) ⊎ T (not (hasb m left))) where
     middle : (m : ℕ) → T (hasb m here) → T (hasb m among)
     middle m h = w.within m (inside m h)
 
-    mid_keeps : (o x : ℕ) → T (leads rows base o x) → T (leads mid base o x)
+    mid_keeps : (o x : ℕ) → T (leads rows o x) → T (leads mid o x)
     unfolding leads
     mid_keeps o x t =
         ⊎_elim (λ h. c.has o x (Path⁺.one (h, t))) (λ n. subst⁻¹ (λ (y : ℕ). T (hasb x y)) (c.idle o n) t) (tested (hasb o here))
 
-    mid_idle : (o x : ℕ) → T (not (hasb o here)) → T (leads mid base o x) → T (leads rows base o x)
+    mid_idle : (o x : ℕ) → T (not (hasb o here)) → T (leads mid o x) → T (leads rows o x)
     unfolding leads
     mid_idle o x n t = subst (λ (y : ℕ). T (hasb x y)) (c.idle o n) t
 
-    mid_sound : (o x : ℕ) → T (hasb o among) → T (leads mid base o x) → Path⁺ (ArcOf before base among) o x
+    mid_sound : (o x : ℕ) → T (hasb o among) → T (leads mid o x) → Path⁺ (ArcOf before among) o x
     mid_sound o x i t =
         ⊎_elim (λ h. path_into (λ c d s. w.sound c d (middle c s.0) s.1) (c.sound o x h t))
         (λ n. w.sound o x i (mid_idle o x n t)) (tested (hasb o here))
 
     -- two middles of the step
-    mid_joins : (m n x : ℕ) → T (hasb m here) → T (hasb n here) → T (leads mid base m n) → T (leads mid base n x) → T (leads mid base m x)
+    mid_joins : (m n x : ℕ) → T (hasb m here) → T (hasb n here) → T (leads mid m n) → T (leads mid n x) → T (leads mid m x)
     mid_joins m n x h i s t = c.has m x (path_join (c.sound m n h s) (c.sound n x i t))
 
     -- a middle that was done before: the last arc of a path to it goes on from there
-    mid_meets : (o j x : ℕ) → T (hasb o among) → T (hasb j among) → T (not (hasb j left)) → T (leads mid base o j) → T (leads mid base j x)
-        → T (leads mid base o x)
+    mid_meets : (o j x : ℕ) → T (hasb o among) → T (hasb j among) → T (not (hasb j left)) → T (leads mid o j) → T (leads mid j x)
+        → T (leads mid o x)
     mid_meets o j x io ij n s t =
         ⊎_elim (λ h. c.has o x (onward (c.sound o j h s)))
         (λ h. mid_keeps o x (w.meets o j x io ij n (mid_idle o j h s) from_it)) (tested (hasb o here))
       where
-        from_it : T (leads rows base j x)
+        from_it : T (leads rows j x)
         from_it = mid_idle j x (not_T (hasb j here) (λ h. T_not (hasb j left) n (inside j h))) t
 
-        onward : {c : ℕ} → Path⁺ (ArcOf rows base here) c j → Path⁺ (ArcOf rows base here) c x
+        onward : {c : ℕ} → Path⁺ (ArcOf rows here) c j → Path⁺ (ArcOf rows here) c x
         onward (Path⁺.one {a = a} e) = Path⁺.one (e.0, w.meets a j x (middle a e.0) ij n e.1 from_it)
         onward (Path⁺.more {b = b} p e) = Path⁺.more p (e.0, w.meets b j x (middle b e.0) ij n e.1 from_it)
 
     abbrev Via : ℕ → ℕ → Type 0
-    Via o x = T (leads mid base o x) ⊎ ((m : ℕ) × T (hasb m here) × T (leads mid base o m) × T (leads mid base m x))
+    Via o x = T (leads mid o x) ⊎ ((m : ℕ) × T (hasb m here) × T (leads mid o m) × T (leads mid m x))
 
     -- a middle of this step
-    at_middle : (o j x : ℕ) → T (hasb o among) → T (hasb j here) → Via o j → Via j x → T (leads after base o x)
+    at_middle : (o j x : ℕ) → T (hasb o among) → T (hasb j here) → Via o j → Via j x → T (leads after o x)
     at_middle o j x io h s t = to_it s (⊎_elim (λ a. a) (λ b. mid_joins j b.0 x h b.1 b.2 b.3) t)
       where
-        to_it : Via o j → T (leads mid base j x) → T (leads after base o x)
+        to_it : Via o j → T (leads mid j x) → T (leads after o x)
         to_it (inl a) t = v.by_way o j x io h a t
         to_it (inr (m, i, a, b)) t = v.by_way o m x io i a (mid_joins m j x i h b t)
 
-    before_it : (o j x : ℕ) → T (hasb o among) → T (hasb j among) → T (not (hasb j left)) → Via o j → Via j x → T (leads after base o x)
+    before_it : (o j x : ℕ) → T (hasb o among) → T (hasb j among) → T (not (hasb j left)) → Via o j → Via j x → T (leads after o x)
     before_it o j x io ij n (inl s) (inl t) = v.keeps o x io (mid_meets o j x io ij n s t)
     before_it o j x io ij n (inl s) (inr (m, h, t, u)) = v.by_way o m x io h (mid_meets o j m io ij n s t) u
     before_it o j x io ij n (inr (m, h, r, s)) (inl t) = v.by_way o m x io h r (mid_meets m j x (middle m h) ij n s t)
     before_it o j x io ij n (inr (m, h, r, s)) (inr (q, i, t, u)) =
         v.by_way o m x io h r (mid_joins m q x h i (mid_meets m j q (middle m h) ij n s t) u)
 
-    closing_more : Closing before base among next after
+    closing_more : Closing before among next after
     closing_more =
         record {
           room = w.room;
           size = v.size ∙ (c.size ∙ w.size);
-          outside = λ j out. v.outside j out ∙ (c.outside j out ∙ w.outside j out);
           idle = λ o n.
               v.idle o n
               ∙ (c.idle o (not_T (hasb o here) (λ h. T_not (hasb o among) n (middle o h))) ∙ w.idle o n);
@@ -218,21 +215,20 @@ module _ (before : List ℕ) (base among : ℕ) where
         }
 
   -- by way of one middle
-  pub closing_single : (rows : List ℕ) (left m : ℕ) → Closing before base among left rows → among < 2 ^ 64 → T (hasb m left)
-      → Closing before base among (remove m left) (passed rows base among m)
+  pub closing_single : (rows : List ℕ) (left m : ℕ) → Closing before among left rows → among < 2 ^ 64 → T (hasb m left)
+      → Closing before among (remove m left) (passed rows among m)
   closing_single rows left m w small member =
-      closing_more rows left (2 ^ m) (remove m left) rows (passed rows base among m) w (alone rows base (2 ^ m) m (single_only m))
-      (passed_through rows base among (2 ^ m) m (passed rows base among m) small (omega (arith, w.size, w.room)) (single_has m) (single_only m) refl)
+      closing_more rows left (2 ^ m) (remove m left) rows (passed rows among m) w (alone rows (2 ^ m) m (single_only m))
+      (passed_through rows among (2 ^ m) m (passed rows among m) small (omega (arith, w.size, w.room)) (single_has m) (single_only m) refl)
       (λ i t. subst⁻¹ (λ (n : ℕ). T (hasb n left)) (single_only m i t) member) (λ i t. still m left i t)
       (λ i t. ⊎_elim (λ q. inl (subst⁻¹ (λ (n : ℕ). T (hasb n (2 ^ m))) q (single_has m))) (λ q. inr q) (gone m left i t))
 
   -- where m is no member, it makes no difference whether it is left
-  pub closing_absent : (rows : List ℕ) (left m : ℕ) → Closing before base among left rows → T (not (hasb m among)) → Closing before base among (remove m left) rows
+  pub closing_absent : (rows : List ℕ) (left m : ℕ) → Closing before among left rows → T (not (hasb m among)) → Closing before among (remove m left) rows
   closing_absent rows left m w n =
       record {
         room = w.room;
         size = w.size;
-        outside = w.outside;
         idle = w.idle;
         within = λ o t. w.within o (still m left o t);
         keeps = w.keeps;
@@ -242,8 +238,8 @@ module _ (before : List ℕ) (base among : ℕ) where
       }
 
   -- by way of some: the first rows are written anew, and those of no member are empty and stay so
-  pub closing_step : (rows : List ℕ) (left four here next count : ℕ) (after : List ℕ) → Closing before base among left rows → Starts before base among
-      → End among count → here ≡ common left four → next ≡ minus left here → Stepped rows base count here after → Closing before base among next after
+  pub closing_step : (rows : List ℕ) (left four here next count : ℕ) (after : List ℕ) → Closing before among left rows → Starts before among
+      → End among count → here ≡ common left four → next ≡ minus left here → Stepped rows count here after → Closing before among next after
   unfolding leads
   closing_step rows left four here next count after w starts end e h v =
       closing_more rows left here next v.between after w v.closure through inside
@@ -259,9 +255,9 @@ module _ (before : List ℕ) (base among : ℕ) where
       outer : (o : ℕ) → T (not (hasb o among)) → T (not (hasb o here))
       outer o n = not_T (hasb o here) (λ i. T_not (hasb o among) n (w.within o (inside o i)))
 
-      empty : (o : ℕ) → o < count → T (not (hasb o among)) → word rows (base + o) ≡ 0
+      empty : (o : ℕ) → o < count → T (not (hasb o among)) → word rows o ≡ 0
       empty o l n =
-          no_member (word rows (base + o))
+          no_member (word rows o)
           (λ x t. T_not (hasb o among) n (starts o x (omega (arith, l, end.small)) (subst (λ (y : ℕ). T (hasb x y)) (w.idle o n) t)))
 
       nothing : v.becomes 0 ≡ 0
@@ -269,69 +265,67 @@ module _ (before : List ℕ) (base among : ℕ) where
           no_member (v.becomes 0)
           (λ x t. ⊎_elim (λ l. T_not (hasb x 0) (none_left x) l) (λ l. T_not (hasb l.0 0) (none_left l.0) l.2) (v.gets.sound 0 x t))
 
-      is : (o : ℕ) → T (hasb o among) → word after (base + o) ≡ v.becomes (word rows (base + o))
+      is : (o : ℕ) → T (hasb o among) → word after o ≡ v.becomes (word rows o)
       is o i = v.anew.new o (hasb_below count o among end.above i)
 
-      keep : (o x : ℕ) → T (hasb x (word rows (base + o))) → T (hasb x (word v.between (base + o)))
+      keep : (o x : ℕ) → T (hasb x (word rows o)) → T (hasb x (word v.between o))
       keep o x t =
           ⊎_elim (λ i. v.closure.has o x (Path⁺.one (i, t))) (λ n. subst⁻¹ (λ (y : ℕ). T (hasb x y)) (v.closure.idle o n) t) (tested (hasb o here))
 
       -- a path within the middles starts with an arc that was there
-      first : (o x : ℕ) → T (hasb o among) → Path⁺ (ArcOf rows base here) o x → T (hasb x (word after (base + o)))
+      first : (o x : ℕ) → T (hasb o among) → Path⁺ (ArcOf rows here) o x → T (hasb x (word after o))
       first o x i p =
           subst⁻¹ (λ (y : ℕ). T (hasb x y)) (is o i)
-          (⊎_elim (λ a. v.gets.keeps (word rows (base + o)) x a.1) (λ a. onward a.0 a.1 a.2) (path_front p))
+          (⊎_elim (λ a. v.gets.keeps (word rows o) x a.1) (λ a. onward a.0 a.1 a.2) (path_front p))
         where
-          onward : (m : ℕ) → ArcOf rows base here o m → Path⁺ (ArcOf rows base here) m x → T (hasb x (v.becomes (word rows (base + o))))
-          onward m a q = v.gets.by_way (word rows (base + o)) m x (path_first q).1.0 a.1 (v.closure.has m x q)
+          onward : (m : ℕ) → ArcOf rows here o m → Path⁺ (ArcOf rows here) m x → T (hasb x (v.becomes (word rows o)))
+          onward m a q = v.gets.by_way (word rows o) m x (path_first q).1.0 a.1 (v.closure.has m x q)
 
-      forth : (o x : ℕ) → T (hasb o among) → T (hasb x (word v.between (base + o))) → T (hasb x (word after (base + o)))
+      forth : (o x : ℕ) → T (hasb o among) → T (hasb x (word v.between o)) → T (hasb x (word after o))
       forth o x i t =
           ⊎_elim (λ l. first o x i (v.closure.sound o x l t))
-          (λ n. subst⁻¹ (λ (y : ℕ). T (hasb x y)) (is o i) (v.gets.keeps (word rows (base + o)) x (subst (λ (y : ℕ). T (hasb x y)) (v.closure.idle o n) t)))
+          (λ n. subst⁻¹ (λ (y : ℕ). T (hasb x y)) (is o i) (v.gets.keeps (word rows o) x (subst (λ (y : ℕ). T (hasb x y)) (v.closure.idle o n) t)))
           (tested (hasb o here))
 
-      through : Through v.between base among here after
+      through : Through v.between among here after
       through =
           record {
             size = v.anew.size ∙ sym v.closure.size;
-            outside = λ j out.
-                v.anew.rest j (⊎_elim (λ l. inl l) (λ l. inr (omega (arith, l, end.small))) out) ∙ sym (v.closure.outside j out);
             idle = λ o n.
                 ⊎_elim (λ l. v.anew.new o l ∙ (ap v.becomes (empty o l n) ∙ (nothing ∙ sym (empty o l n))))
-                (λ l. v.anew.rest (base + o) (inr (omega (arith, l)))) (below_or_not o count)
+                (λ l. v.anew.rest o l) (below_or_not o count)
                 ∙ sym (v.closure.idle o (outer o n));
             keeps = forth;
             by_way = λ o m x i l s t.
                 ⊎_elim (λ k. first o x i (path_join (v.closure.sound o m k s) (v.closure.sound m x l t)))
                 (λ n.
                 subst⁻¹ (λ (y : ℕ). T (hasb x y)) (is o i)
-                (v.gets.by_way (word rows (base + o)) m x l (subst (λ (y : ℕ). T (hasb m y)) (v.closure.idle o n) s) t)) (tested (hasb o here));
+                (v.gets.by_way (word rows o) m x l (subst (λ (y : ℕ). T (hasb m y)) (v.closure.idle o n) s) t)) (tested (hasb o here));
             sound = λ o x i t.
                 ⊎_elim (λ l. inl (keep o x l)) (λ l. inr (l.0, l.1, keep o l.0 l.2, l.3))
-                (v.gets.sound (word rows (base + o)) x (subst (λ (y : ℕ). T (hasb x y)) (is o i) t));
+                (v.gets.sound (word rows o) x (subst (λ (y : ℕ). T (hasb x y)) (is o i) t));
           }
 
-  pub closing_finish : (rows : List ℕ) (left : ℕ) → Closing before base among left rows → left ≡ 0 → Closure before base among rows
+  pub closing_finish : (rows : List ℕ) (left : ℕ) → Closing before among left rows → left ≡ 0 → Closure before among rows
   closing_finish rows left w e =
-      record { size = w.size; outside = w.outside; idle = w.idle; sound = w.sound; has = λ o x p. along p }
+      record { size = w.size; idle = w.idle; sound = w.sound; has = λ o x p. along p }
     where
-      along : {o x : ℕ} → Path⁺ (ArcOf before base among) o x → T (leads rows base o x)
+      along : {o x : ℕ} → Path⁺ (ArcOf before among) o x → T (leads rows o x)
       along (Path⁺.one {a = a} {b = b} s) = w.keeps a b s.0 s.1
       along (Path⁺.more {a = a} {b = b} {c = c} p s) =
           w.meets a b c (path_first p).1.0 s.0 (subst⁻¹ (λ (n : ℕ). T (not (hasb b n))) e (none_left b)) (along p) (w.keeps b c s.0 s.1)
 
 -- where every arc starts at a member of the set, a row has bit x exactly if a path of the rows on entry leads from it to x
-module _ (before : List ℕ) (base among : ℕ) (after : List ℕ) (small : among < 2 ^ 64) (w : Closure before base among after)
-    (starts : Starts before base among) where
-  pub closure_starts : Starts after base among
+module _ (before : List ℕ) (among : ℕ) (after : List ℕ) (small : among < 2 ^ 64) (w : Closure before among after)
+    (starts : Starts before among) where
+  pub closure_starts : Starts after among
   unfolding leads
   closure_starts o x h t =
       ⊎_elim (λ i. i) (λ n. starts o x h (subst (λ (y : ℕ). T (hasb x y)) (w.idle o n) t)) (tested (hasb o among))
 
-  pub leads_path : (o x : ℕ) → o < 64 → T (leads after base o x) → Path⁺ (Arc before base) o x
+  pub leads_path : (o x : ℕ) → o < 64 → T (leads after o x) → Path⁺ (Arc before) o x
   leads_path o x h t =
       path_map (λ c d s. (hasb_below 64 c among small s.0, s.1)) (w.sound o x (closure_starts o x h t) t)
 
-  pub path_leads : (o x : ℕ) → Path⁺ (Arc before base) o x → T (leads after base o x)
+  pub path_leads : (o x : ℕ) → Path⁺ (Arc before) o x → T (leads after o x)
   path_leads o x p = w.has o x (path_map (λ c d s. (starts c d s.0 s.1, s.1)) p)

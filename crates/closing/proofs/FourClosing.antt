@@ -3,10 +3,10 @@ use Prim.Native.Nat.{ℕ, ◌+◌, ◌^◌, ◌≤◌, ◌<◌}
 use mathlib.Core.Path.{◌≡◌, sym, ◌∙◌, ap, subst}
 use mathlib.Core.Logic.{◌⊎◌, inl, inr, ⊎_elim}
 use mathlib.Core.Bool.{cond, not}
-use mathlib.Core.List.{List}
+use mathlib.Core.List.{List, map}
 use native.Mathlib.Omega.{arith}
 use lib.Dec.{T, T_not}
-use lib.ListN.{length, set, get_or}
+use lib.ListN.{length, get_or}
 use Rattle.bits.specs.Bit.{hasb, union, remove}
 use Rattle.bits.proofs.BitLaws.{bits_ext, bit_of_zero}
 use Rattle.bits.proofs.SetLaws.{bit_union}
@@ -16,37 +16,36 @@ use Rattle.basics.proofs.TestLaws.{tested, chosen, passed_over, same_or_not, bel
 use Rattle.closing.specs.Closure.{row_by, Anew}
 use Rattle.closing.specs.Fours.{OfFour, row_of, RowsOf, Closed}
 use Rattle.closing.proofs.RewriteLaws.{still, gone}
-use Rattle.closing.proofs.RewrittenLaws.{rewritten_at}
-use Rattle.closing.proofs.PassLaws.{passed, anew_turn}
+use Rattle.closing.proofs.PassLaws.{passed, passed_at, all_anew}
 use Rattle.closing.proofs.ClosureLaws.{Closing, closing_start, closing_single, closing_absent, closing_finish}
 
 -- The invariant: the four rows are those of rows in which paths meet at each of the first i of the four.
-pub record FourClosing (rows : List ℕ) (base here k i : ℕ) (four : List ℕ) : Type 0 where
+pub record FourClosing (rows : List ℕ) (here k i : ℕ) (four : List ℕ) : Type 0 where
   pub mid : List ℕ
   pub left : ℕ
-  pub closing : Closing rows base here left mid
+  pub closing : Closing rows here left mid
   pub later : (x : ℕ) → T (hasb x left) → k + i ≤ x
   pub earlier : (x : ℕ) → T (hasb x here) → T (not (hasb x left)) → x < k + i
-  pub are : RowsOf mid base here k 4 four
+  pub are : RowsOf mid here k 4 four
 
-module _ (rows : List ℕ) (base here k : ℕ) (some : OfFour k here) where
-  pub four_start : (four : List ℕ) → base + 64 ≤ length rows → RowsOf rows base here k 4 four → FourClosing rows base here k 0 four
+module _ (rows : List ℕ) (here k : ℕ) (some : OfFour k here) where
+  pub four_start : (four : List ℕ) → length rows ≡ 64 → RowsOf rows here k 4 four → FourClosing rows here k 0 four
   four_start four room w =
       record {
         mid = rows;
         left = here;
-        closing = closing_start rows base here here room (record { within = λ m t. t; meets = λ o j x n s t. absurd (T_not (hasb j here) n t.0) });
+        closing = closing_start rows here here room (record { within = λ m t. t; meets = λ o j x n s t. absurd (T_not (hasb j here) n t.0) });
         later = λ x t. omega (arith, (some x t).0);
         earlier = λ x t n. absurd (T_not (hasb x here) n t);
         are = w;
       }
 
-  pub four_done : (i : ℕ) (four : List ℕ) → FourClosing rows base here k i four → i ≤ 4 → 4 ≤ i → Closed rows base here k four
+  pub four_done : (i : ℕ) (four : List ℕ) → FourClosing rows here k i four → i ≤ 4 → 4 ≤ i → Closed rows here k four
   four_done i four w h l =
       record {
         between = w.mid;
         closure =
-            closing_finish rows base here w.mid w.left w.closing
+            closing_finish rows here w.mid w.left w.closing
             (no_member w.left (λ x t. let a = w.later x t in let b = (some x (w.closing.within x t)).1 in omega (arith, a, b, l)));
         four_rows = w.are;
       }
@@ -63,17 +62,17 @@ empty_middle m row =
     (λ t. chosen (hasb m row) _ _ t ∙ bits_ext (union row 0) row (λ i. omega (arith, bit_union i row 0, bit_of_zero i)))
     (λ t. passed_over (hasb m row) _ _ t) (tested (hasb m row))
 
-pub four_closing_turn : (rows : List ℕ) (base here k i : ℕ) (four : List ℕ) (onward : ℕ) (after : List ℕ) → here < 2 ^ 64
-    → FourClosing rows base here k i four → i < 4 → onward ≡ get_or four i 0 → Anew four 0 (row_by (k + i) onward) 4 after
-    → FourClosing rows base here k (i + 1) after
+pub four_closing_turn : (rows : List ℕ) (here k i : ℕ) (four : List ℕ) (onward : ℕ) (after : List ℕ) → here < 2 ^ 64
+    → FourClosing rows here k i four → i < 4 → onward ≡ get_or four i 0 → after ≡ map (row_by (k + i) onward) four
+    → FourClosing rows here k (i + 1) after
 unfolding row_of passed
-four_closing_turn rows base here k i four onward after small w h e v =
+four_closing_turn rows here k i four onward after small w h e q =
     ⊎_elim
     (λ t.
     record {
-      mid = passed w.mid base here (k + i);
+      mid = passed w.mid here (k + i);
       left = remove (k + i) w.left;
-      closing = closing_single rows base here w.mid w.left (k + i) w.closing small (there t);
+      closing = closing_single rows here w.mid w.left (k + i) w.closing small (there t);
       later = later;
       earlier = earlier;
       are = record {
@@ -85,7 +84,7 @@ four_closing_turn rows base here k i four onward after small w h e v =
     record {
       mid = w.mid;
       left = remove (k + i) w.left;
-      closing = closing_absent rows base here w.mid w.left (k + i) w.closing n;
+      closing = closing_absent rows here w.mid w.left (k + i) w.closing n;
       later = later;
       earlier = earlier;
       are = record {
@@ -97,11 +96,13 @@ four_closing_turn rows base here k i four onward after small w h e v =
     })
     (tested (hasb (k + i) here))
   where
-    at : (j : ℕ) → j < 4 → word after j ≡ row_by (k + i) onward (word four j)
-    at j l =
-        let z : 0 + j ≡ j = omega arith in subst (λ (n : ℕ). word after n ≡ row_by (k + i) onward (word four n)) z (v.new j l)
+    v : Anew four (row_by (k + i) onward) 4 after
+    v = all_anew four (row_by (k + i) onward) 4 after w.are.size q
 
-    mine : onward ≡ cond (hasb (k + i) here) (word w.mid (base + (k + i))) 0
+    at : (j : ℕ) → j < 4 → word after j ≡ row_by (k + i) onward (word four j)
+    at j l = v.new j l
+
+    mine : onward ≡ cond (hasb (k + i) here) (word w.mid (k + i)) 0
     mine = e ∙ w.are.are i h
 
     there : T (hasb (k + i) here) → T (hasb (k + i) w.left)
@@ -117,20 +118,12 @@ four_closing_turn rows base here k i four onward after small w h e v =
     earlier x t n = ⊎_elim (λ q. omega (arith, q)) (λ q. let l = w.earlier x t q in omega (arith, l)) (gone (k + i) w.left x n)
 
     by_members : T (hasb (k + i) here) → (j : ℕ) → j < 4 → T (hasb (k + j) here) ⊎ T (not (hasb (k + j) here))
-        → row_by (k + i) (word w.mid (base + (k + i))) (word four j) ≡ row_of (passed w.mid base here (k + i)) base here (k + j)
+        → row_by (k + i) (word w.mid (k + i)) (word four j) ≡ row_of (passed w.mid here (k + i)) here (k + j)
     by_members t j l (inl s) =
         let Small-one = hasb_below 64 (k + j) here small s in
-        ap (λ (n : ℕ). row_by (k + i) (word w.mid (base + (k + i))) n) (w.are.are j l ∙ chosen (hasb (k + j) here) _ _ s)
-        ∙ (sym (rewritten_at w.mid base here _ (k + j) Small-one (omega (arith, w.closing.size, w.closing.room, Small-one)) s)
+        ap (λ (n : ℕ). row_by (k + i) (word w.mid (k + i)) n) (w.are.are j l ∙ chosen (hasb (k + j) here) _ _ s)
+        ∙ (sym (passed_at w.mid here (k + i) (k + j) Small-one (omega (arith, w.closing.size, w.closing.room, Small-one)) s)
         ∙ sym (chosen (hasb (k + j) here) _ _ s))
     by_members t j l (inr s) =
-        ap (λ (n : ℕ). row_by (k + i) (word w.mid (base + (k + i))) n) (w.are.are j l ∙ passed_over (hasb (k + j) here) _ _ s)
-        ∙ (empty_row (k + i) (word w.mid (base + (k + i))) ∙ sym (passed_over (hasb (k + j) here) _ _ s))
-
--- the rows of a short list, by way of one middle
-pub short_turn : (before : List ℕ) (m onward j : ℕ) (four : List ℕ) (v : ℕ) → Anew before 0 (row_by m onward) j four → length before ≡ 4 → j < 4
-    → v ≡ row_by m onward (get_or four j 0) → Anew before 0 (row_by m onward) (j + 1) (set four j v)
-short_turn before m onward j four v w e h q =
-    let z : 0 + j ≡ j = omega arith in
-    subst (λ (n : ℕ). Anew before 0 (row_by m onward) (j + 1) (set four n v)) z
-    (anew_turn before 0 (row_by m onward) j four v w (omega (arith, e, h)) (q ∙ sym (ap (λ (n : ℕ). row_by m onward (word four n)) z)))
+        ap (λ (n : ℕ). row_by (k + i) (word w.mid (k + i)) n) (w.are.are j l ∙ passed_over (hasb (k + j) here) _ _ s)
+        ∙ (empty_row (k + i) (word w.mid (k + i)) ∙ sym (passed_over (hasb (k + j) here) _ _ s))

@@ -23,31 +23,13 @@ use Rattle.closing.proofs.PassLaws.{anew_turn}
 
 -- ---- the row of a member
 
-pub row_there : (rows : List ℕ) (base here m v : ℕ) (t : Bool) → t ≡ hasb m here → t ≡ true → v ≡ word rows (base + m) → v ≡ row_of rows base here m
+pub row_there : (rows : List ℕ) (here m v : ℕ) (t : Bool) → t ≡ hasb m here → t ≡ true → v ≡ word rows m → v ≡ row_of rows here m
 unfolding row_of
-row_there rows base here m v t h y e = e ∙ sym (ap (λ (b : Bool). cond b (word rows (base + m)) 0) (sym h ∙ y))
+row_there rows here m v t h y e = e ∙ sym (ap (λ (b : Bool). cond b (word rows m) 0) (sym h ∙ y))
 
-pub no_row : (rows : List ℕ) (base here m : ℕ) (t : Bool) → t ≡ hasb m here → t ≡ false → 0 ≡ row_of rows base here m
+pub no_row : (rows : List ℕ) (here m : ℕ) (t : Bool) → t ≡ hasb m here → t ≡ false → 0 ≡ row_of rows here m
 unfolding row_of
-no_row rows base here m t h n = sym (ap (λ (b : Bool). cond b (word rows (base + m)) 0) (sym h ∙ n))
-
-pub rows_start : (rows : List ℕ) (base here k : ℕ) (four : List ℕ) → four ≡ replicate 4 0 → RowsOf rows base here k 0 four
-rows_start rows base here k four e = record { size = ap length e; are = λ i h. absurd (omega (arith, h)) }
-
-pub rows_turn : (rows : List ℕ) (base here k i : ℕ) (four : List ℕ) (v : ℕ) → RowsOf rows base here k i four → i < 4
-    → v ≡ row_of rows base here (k + i) → RowsOf rows base here k (i + 1) (set four i v)
-rows_turn rows base here k i four v w h e =
-    record {
-      size = length-set four i v ∙ w.size;
-      are = λ j l.
-          ⊎_elim (λ q. get_or-set_other four i j v 0 (λ z. omega (arith, z)) ∙ w.are j q)
-          (λ q.
-          subst⁻¹ (λ (n : ℕ). word (set four i v) n ≡ row_of rows base here (k + n)) q
-          (get_or-set_same four i v 0 (omega (arith, w.size, h)) ∙ e)) (below_suc j i (omega (arith, l)));
-    }
-
-pub rows_finish : (rows : List ℕ) (base here k i : ℕ) (four : List ℕ) → RowsOf rows base here k i four → i ≤ 4 → 4 ≤ i → RowsOf rows base here k 4 four
-rows_finish rows base here k i four w h l = let e : i ≡ 4 = omega arith in subst (λ (n : ℕ). RowsOf rows base here k n four) e w
+no_row rows here m t h n = sym (ap (λ (b : Bool). cond b (word rows m) 0) (sym h ∙ n))
 
 -- ---- doubling a table of unions
 
@@ -149,17 +131,17 @@ pub four_is : (row k : ℕ) → row / 2 ^ k % 16 ≡ four_at k row
 unfolding four_at
 four_is row k = refl
 
-pub four_turn : (before : List ℕ) (base count k : ℕ) (unions : List ℕ) (o : ℕ) (rows : List ℕ) (i v : ℕ) → Anew before base (row_by_four k unions) o rows
-    → base + 64 ≤ length before → o < count → count ≤ 64 → i ≡ four_at k (word rows (base + o)) → v ≡ union (word rows (base + o)) (word unions i)
-    → Anew before base (row_by_four k unions) (o + 1) (set rows (base + o) v)
+pub four_turn : (before : List ℕ) (k : ℕ) (unions : List ℕ) (o : ℕ) (rows : List ℕ) (i v : ℕ) → Anew before (row_by_four k unions) o rows
+    → o < length rows → i ≡ four_at k (word rows o) → v ≡ union (word rows o) (word unions i)
+    → Anew before (row_by_four k unions) (o + 1) (set rows o v)
 unfolding row_by_four
-four_turn before base count k unions o rows i v w h l m e q =
-    anew_turn before base (row_by_four k unions) o rows v w (omega arith) (q ∙ ap (λ (n : ℕ). union (word rows (base + o)) (word unions n)) e)
+four_turn before k unions o rows i v w h e q =
+    anew_turn before (row_by_four k unions) o rows v w h (q ∙ ap (λ (n : ℕ). union (word rows o) (word unions n)) e)
 
-pub four_gets : (rows : List ℕ) (base middles k : ℕ) (four unions : List ℕ) → OfFour k middles → RowsOf rows base middles k 4 four → Unions four 16 unions
-    → Gets rows base middles (row_by_four k unions)
+pub four_gets : (rows : List ℕ) (middles k : ℕ) (four unions : List ℕ) → OfFour k middles → RowsOf rows middles k 4 four → Unions four 16 unions
+    → Gets rows middles (row_by_four k unions)
 unfolding row_by_four leads row_of four_at
-four_gets rows base middles k four unions some r w =
+four_gets rows middles k four unions some r w =
     record {
       keeps = λ row x t. union_left x row _ t;
       by_way = λ row m x h s t.
@@ -169,7 +151,7 @@ four_gets rows base middles k four unions some r w =
           (w.has (four_at k row) (m - k) x (small row) (subst⁻¹ (λ (b : Bool). T b) (at row (m - k) l) (subst (λ (y : ℕ). T (hasb y row)) q s))
           (subst⁻¹ (λ (y : ℕ). T (hasb x y)) (r.are (m - k) l)
           (subst⁻¹ (λ (y : ℕ). T (hasb x y)) (chosen (hasb (k + (m - k)) middles) _ _ (subst (λ (y : ℕ). T (hasb y middles)) q h))
-          (subst (λ (y : ℕ). T (hasb x (word rows (base + y)))) q t))));
+          (subst (λ (y : ℕ). T (hasb x (word rows y))) q t))));
       sound = λ row x t. ⊎_elim (λ l. inl l) (λ l. inr (via row x (w.sound (four_at k row) x (small row) l))) (union_cases x row _ t);
     }
   where
@@ -180,7 +162,7 @@ four_gets rows base middles k four unions some r w =
     at row i h = ap (λ (n : ℕ). eqb n 1) (bit_cut 4 i (row / 2 ^ k) h ∙ bit_down k i row)
 
     via : (row x : ℕ) → (i : ℕ) × T (hasb i (four_at k row)) × T (hasb x (word four i))
-        → (m : ℕ) × T (hasb m middles) × T (hasb m row) × T (leads rows base m x)
+        → (m : ℕ) × T (hasb m middles) × T (hasb m row) × T (leads rows m x)
     via row x (i, m, t) =
         let h = hasb_below 4 i (four_at k row) (small row) m in
         let u = subst (λ (y : ℕ). T (hasb x y)) (r.are i h) t in

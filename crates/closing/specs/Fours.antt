@@ -10,19 +10,19 @@ abbrev pub OfFour : ℕ → ℕ → Type 0
 OfFour k here = (m : ℕ) → T (hasb m here) → (k ≤ m) × (m < k + 4)
 
 -- the row of m where m is a member of a set, else none
-unfoldable pub row_of : List ℕ → ℕ → ℕ → ℕ → ℕ
-row_of rows base here m = cond (hasb m here) (word rows (base + m)) 0
+unfoldable pub row_of : List ℕ → ℕ → ℕ → ℕ
+row_of rows here m = cond (hasb m here) (word rows m) 0
 
 -- the rows of the first n of the four from k on
-pub record RowsOf (rows : List ℕ) (base here k n : ℕ) (four : List ℕ) : Type 0 where
+pub record RowsOf (rows : List ℕ) (here k n : ℕ) (four : List ℕ) : Type 0 where
   pub size : length four ≡ 4
-  pub are : (i : ℕ) → i < n → word four i ≡ row_of rows base here (k + i)
+  pub are : (i : ℕ) → i < n → word four i ≡ row_of rows here (k + i)
 
 -- the rows of the four from k on, once those of them that are members of a set are closed among themselves
-pub record Closed (rows : List ℕ) (base here k : ℕ) (four : List ℕ) : Type 0 where
+pub record Closed (rows : List ℕ) (here k : ℕ) (four : List ℕ) : Type 0 where
   pub between : List ℕ
-  pub closure : Closure rows base here between
-  pub four_rows : RowsOf between base here k 4 four
+  pub closure : Closure rows here between
+  pub four_rows : RowsOf between here k 4 four
 
 -- Of a table of unions those from count on, as far as they are done, are those before once more, with a further row.
 pub record Doubled (before : List ℕ) (count row done : ℕ) (after : List ℕ) : Type 0 where

@@ -15,7 +15,7 @@ ghost use Rattle.runs.specs.Run as runs;
 ghost use Rattle.executing.specs.Located as located;
 ghost use Rattle.executing.specs.State as state;
 
-use access::{Table, known};
+use access::{Rule, Table, known};
 use grammar::{MOST_RULES, ROWS, RULE_WORDS, SET_WORDS};
 use runs::Ran;
 use trees::MOST_NODES;
@@ -42,9 +42,12 @@ fn locate_rule(table: &Table<'_>, r: usize, starts: &mut Starts)
     ensures { located.RuleLocated table.now.words.now r starts.old starts.new }
 {
     let words = table.words;
-    let p = table.rule_at(r);
-    let mut f = access::first_function(words, p);
-    for k in 0..access::function_count(words, p) {
+    let rule = Rule {
+        words,
+        at: table.rule_at(r),
+    };
+    let mut f = rule.first_function();
+    for k in 0..rule.function_count() {
         note(starts, r, access::word(words, f), f);
         f = access::next_function(words, f);
     }

@@ -37,7 +37,8 @@ use Rattle.plans.specs.Buffers.{over, rows_of}
 use Rattle.plans.specs.Answer.{idp_paths, edp_paths}
 use Rattle.inducing.specs.Closes.{Closes}
 use Rattle.inducing.specs.Arcs.{SpreadArc, ArcsFit}
-use Rattle.inducing.specs.Rules.{occurrences_of, Holds, Frame}
+use Rattle.inducing.specs.Rules.{occurrences_of, rule_rows, RuleCloses, Holds, Frame}
+use Rattle.inducing.proofs.LentLaws.{rule_rows_length, rule_there, put_back}
 use Rattle.inducing.proofs.RowLaws.{over_leads, over_below}
 use Rattle.inducing.proofs.RuleRowLaws.{counts, occurs_among, standing, attribute_among, among_small}
 use Rattle.inducing.proofs.HoldsLaws.{frame_none, frame_then, frame_turn, holds_lower, holds_turn, holds_rows, idp_trans, closes_at}
@@ -106,21 +107,21 @@ module _ (g : List ℕ) (good : read_table g ≡ Good) where
 
   -- at first: the paths of IDP
   module _ (entry : List ℕ) (room : 64 * rules g ≤ length entry) (e : entry ≡ over (rows_of g (idp_paths g (ids_of g))) entry) where
-    leads_idp : (r o b : ℕ) → r < rules g → o < 64 → T (leads entry (64 * r) o b) → IDP⁺ g r o b
+    leads_idp : (r o b : ℕ) → r < rules g → o < 64 → T (leads (rule_rows entry r) o b) → IDP⁺ g r o b
     unfolding idp_paths
     leads_idp r o b h l t =
-        let u : T (leads (over (rows_of g (idp_paths g (ids_of g))) entry) (64 * r) o b) = subst (λ (s : List ℕ). T (leads s (64 * r) o b)) e t in
+        let u : T (leads (rule_rows (over (rows_of g (idp_paths g (ids_of g))) entry) r) o b) = subst (λ (s : List ℕ). T (leads (rule_rows s r) o b)) e t in
         let m : b < 64 = over_below g (idp_paths g (ids_of g)) entry r o b h l u in
         (idp_path_exact g good r o b (counts g good r h)).0
         (subst (λ (c : Bool). T c) (over_leads g (idp_paths g (ids_of g)) entry r o b h l m) u)
 
-    idp_leads : (r a b : ℕ) → r < rules g → IDP⁺ g r a b → (a < 64) × T (leads entry (64 * r) a b)
+    idp_leads : (r a b : ℕ) → r < rules g → IDP⁺ g r a b → (a < 64) × T (leads (rule_rows entry r) a b)
     unfolding idp_paths
     idp_leads r a b h p =
         let la : a < 64 = occurs_below g formed r a (counts g good r h) (idp_path_from g formed (counts g good r h) p) in
         let lb : b < 64 = occurs_below g formed r b (counts g good r h) (idp_path_to g formed (counts g good r h) p) in (
           la,
-          subst⁻¹ (λ (s : List ℕ). T (leads s (64 * r) a b)) e
+          subst⁻¹ (λ (s : List ℕ). T (leads (rule_rows s r) a b)) e
               (subst⁻¹ (λ (c : Bool). T c) (over_leads g (idp_paths g (ids_of g)) entry r a b h la lb)
               ((idp_path_exact g good r a b (counts g good r h)).1 p)),
         )
@@ -132,7 +133,7 @@ module _ (g : List ℕ) (good : read_table g ≡ Good) where
           holds = record {
             room = room;
             kept = λ r h. record {
-              room = omega arith;
+              room = omega (arith, rule_rows_length entry r (omega arith));
               closed = λ o m x ho hm s t. (idp_leads r o x h (idp_trans g r o m x (leads_idp r o m h ho s) (leads_idp r m x h hm t))).1;
               from = λ o x ho t. occurs_among g good r o h (idp_path_from g formed (counts g good r h) (leads_idp r o x h ho t));
               to = λ o x ho t. occurs_among g good r x h (idp_path_to g formed (counts g good r h) (leads_idp r o x h ho t));
@@ -145,7 +146,7 @@ module _ (g : List ℕ) (good : read_table g ≡ Good) where
 
   -- one rule more
   pub extending_turn : (entry rows : List ℕ) (n count : ℕ) (after : List ℕ) → Extending g entry n rows → count ≡ rules g → n < count
-      → Closes rows (64 * n) (occurrences_of g n) (Down g n) after → Extending g entry (n + 1) after
+      → RuleCloses rows n (occurrences_of g n) (Down g n) after → Extending g entry (n + 1) after
   extending_turn entry rows n count after w e l v =
       let h : n < rules g = omega arith in
       record {
@@ -191,7 +192,7 @@ module _ (g : List ℕ) (good : read_table g ≡ Good) where
   edp_lower r m n h (EDP.higher i x a b w l) = inr (h, beside_down r i x a b m n w l)
 
   -- the rows of the next rule
-  pub extending_kept : (entry rows : List ℕ) (n count : ℕ) → Extending g entry n rows → count ≡ rules g → n < count → Kept rows (64 * n) (occurrences_of g n)
+  pub extending_kept : (entry rows : List ℕ) (n count : ℕ) → Extending g entry n rows → count ≡ rules g → n < count → Kept (rule_rows rows n) (occurrences_of g n)
   extending_kept entry rows n count w e h = w.holds.kept n (omega arith)
 
   pub extending_finish : (entry rows : List ℕ) (n count : ℕ) → Extending g entry n rows → count ≡ rules g → count ≤ n
@@ -220,8 +221,8 @@ module _ (g offsets rows arcs : List ℕ) (r p among : ℕ) (w : RuleOf g offset
       (λ i l k t.
       descent_among g w.good r i k w.inside l (subst (λ (x : ℕ). T (hasb k (word (order_of g (numbers g)) x))) (symbol_same g r i) t))))
 
-  pub down_closes : (after : List ℕ) → Closes rows (64 * r) among (SpreadArc g p arcs (length_at g p + 1)) after
-      → Closes rows (64 * r) (occurrences_of g r) (Down g r) after
-  down_closes after u =
-      closes_at g rows after r p among (λ q. SpreadArc g q (order_of g (numbers g)) (length_at g q + 1)) (rule_starts g offsets r w p e) a
-      (subst (λ (l : List ℕ). Closes rows (64 * r) among (SpreadArc g p l (length_at g p + 1)) after) o u)
+  pub down_closes : (own part back : List ℕ) → Kept (rule_rows rows r) (occurrences_of g r) → own ≡ rule_rows rows r → back ≡ put_back rows r part
+      → Closes own among (SpreadArc g p arcs (length_at g p + 1)) part → RuleCloses rows r (occurrences_of g r) (Down g r) back
+  down_closes own part back k is in_place u =
+      closes_at g rows own part back r p among (λ q. SpreadArc g q (order_of g (numbers g)) (length_at g q + 1)) (rule_starts g offsets r w p e) a (rule_there rows r (occurrences_of g r) k) is in_place
+      (subst (λ (l : List ℕ). Closes own among (SpreadArc g p l (length_at g p + 1)) part) o u)

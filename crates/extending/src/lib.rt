@@ -7,15 +7,14 @@ ghost use Rattle.bits.specs.Bit.{collect};
 ghost use Rattle.grammar.specs.Limits.{row_words};
 ghost use Rattle.grammar.specs.Table as tables;
 ghost use Rattle.closing.specs.Rows.{Kept};
-ghost use Rattle.inducing.specs.Closes.{Closes};
-ghost use Rattle.inducing.specs.Rules.{occurrences_of};
+ghost use Rattle.inducing.specs.Rules.{occurrences_of, rule_rows, RuleCloses};
 ghost use Rattle.relations.specs.Computed.{ids_of};
 ghost use Rattle.sets.specs.Computed.{sets_of};
 ghost use Rattle.plans.specs.Buffers.{over, rows_of};
 ghost use Rattle.plans.specs.Answer.{idp_paths, edp_paths};
 ghost use Rattle.extending.specs.Descents as spec;
 
-use access::Table;
+use access::{Rule, Table};
 use grammar::{ROWS, SET_WORDS};
 
 // Whether arc k = 8a + b leads to a lower set. Past the count of attributes the set words are 0, which is no set.
@@ -68,13 +67,16 @@ fn order(table: &Table<'_>, sets: &[u16; SET_WORDS]) -> [u64; 32]
 fn extend_rule(table: &Table<'_>, r: usize, arcs: &[u64; 32], rows: &mut [u64])
     requires inside { r < tables.rules table.now.words.now }
     requires arcs_value { arcs.now ≡ spec.order_of table.now.words.now (spec.numbers table.now.words.now) }
-    requires kept { Kept rows.old (64 * r) (occurrences_of table.now.words.now r) }
-    ensures { Closes rows.old (64 * r) (occurrences_of table.now.words.now r) (spec.Down table.now.words.now r) rows.new }
+    requires kept { Kept (rule_rows rows.old r) (occurrences_of table.now.words.now r) }
+    ensures { RuleCloses rows.old r (occurrences_of table.now.words.now r) (spec.Down table.now.words.now r) rows.new }
 {
-    let words = table.words;
-    let p = table.rule_at(r);
-    let among = access::occurrence_set(words, p);
-    inducing::spread(words, p, rows, ROWS * r, among, arcs);
+    let rule = Rule {
+        words: table.words,
+        at: table.rule_at(r),
+    };
+    let (_, later) = rows.split_at_mut(ROWS * r);
+    let own = later.first_chunk_mut::<ROWS>().unwrap();
+    inducing::spread(&rule, own, rule.occurrences(), arcs);
 }
 
 // Step 4: the rows, which hold the paths of IDP, get those of EDP.

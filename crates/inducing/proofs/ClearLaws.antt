@@ -1,14 +1,14 @@
--- Words that are cleared one after the other, and lists of zeros.
+-- Words that are cleared, and lists of zeros.
 -- Assumes nothing.
-use Prim.Native.Nat.{ℕ, ◌+◌, ◌*◌, ◌≤◌, ◌<◌}
-use mathlib.Core.Path.{◌≡◌, refl, ◌∙◌, subst, subst⁻¹}
+use Prim.Native.Nat.{ℕ, ◌*◌, ◌-◌, ◌≤◌, ◌<◌}
+use mathlib.Core.Path.{◌≡◌, ◌∙◌, ap, subst}
 use mathlib.Core.Logic.{⊎_elim}
-use mathlib.Core.List.{List}
+use mathlib.Core.List.{List, ◌++◌}
 use native.Mathlib.Omega.{arith}
-use lib.ListN.{length, set, replicate, length-set, length-replicate, get_or-replicate, get_or-eq_default}
-use lib.Seq.{get_or-set_same, get_or-set_other}
+use lib.ListN.{length, take, drop, replicate, length-drop, length-append, length-replicate, get_or-append, get_or-replicate, get_or-eq_default}
+use Rattle.std.proofs.lemmas.List.{get_or-drop, get_or-append_right, length-take-le}
 use Rattle.basics.specs.Lists.{word}
-use Rattle.basics.proofs.TestLaws.{below_suc, below_or_not}
+use Rattle.basics.proofs.TestLaws.{below_or_not}
 use Rattle.grammar.specs.Limits.{row_words}
 use Rattle.grammar.specs.Table.{rules}
 use Rattle.inducing.specs.Rules.{Cleared}
@@ -19,29 +19,33 @@ zero_words m i =
     ⊎_elim (λ l. get_or-replicate m i 0 0 l) (λ l. get_or-eq_default (replicate m 0) 0 {n = i} (omega (arith, length-replicate {A = ℕ} m 0)))
     (below_or_not i m)
 
-pub clear_start : (rows : List ℕ) → Cleared 0 rows rows
-clear_start rows = record { size = refl; zero = λ j h. absurd (omega arith); rest = λ j h. refl }
-
-pub clear_turn : (entry rows : List ℕ) (j count : ℕ) → Cleared j entry rows → j < count → count ≤ length entry → Cleared (j + 1) entry (set rows j 0)
-clear_turn entry rows j count w h l =
+-- the first words filled with 0
+filled : (entry part : List ℕ) (count : ℕ) → count ≤ length entry → part ≡ replicate (length (take count entry)) 0
+    → Cleared count entry (part ++ drop count entry)
+filled entry part count h e =
     record {
-      size = length-set rows j 0 ∙ w.size;
-      zero = λ i m.
-          ⊎_elim (λ k. get_or-set_other rows j i 0 0 (λ e. omega arith) ∙ w.zero i k)
-          (λ k. subst⁻¹ (λ (n : ℕ). word (set rows j 0) n ≡ 0) k (get_or-set_same rows j 0 0 (omega (arith, w.size)))) (below_suc i j (omega arith));
-      rest = λ i m. get_or-set_other rows j i 0 0 (λ e. omega arith) ∙ w.rest i (omega arith);
+      size = length-append part (drop count entry) ∙ omega (arith, size, length-drop count entry);
+      zero = λ j l.
+          get_or-append part (drop count entry) 0 j (omega (arith, size))
+          ∙ (ap (λ (s : List ℕ). word s j) e ∙ zero_words (length (take count entry)) j);
+      rest = λ j l.
+          get_or-append_right part (drop count entry) count j 0 size l
+          ∙ (get_or-drop count entry (j - count) 0 ∙ ap (λ (i : ℕ). word entry i) (omega arith));
     }
-
-pub clear_finish : (entry rows : List ℕ) (j count : ℕ) → Cleared j entry rows → j ≤ count → count ≤ j → Cleared count entry rows
-clear_finish entry rows j count w h l = let e : j ≡ count = omega arith in subst (λ (n : ℕ). Cleared n entry rows) e w
+  where
+    size : length part ≡ count
+    size = ap length e ∙ (length-replicate {A = ℕ} (length (take count entry)) 0 ∙ length-take-le count entry h)
 
 -- as many words as the rules have
-module _ (g entry rows : List ℕ) (n : ℕ) (e : n ≡ rules g) (w : Cleared (64 * n) entry rows) where
-  pub cleared_rules : Cleared (64 * rules g) entry rows
-  cleared_rules = subst (λ (m : ℕ). Cleared (64 * m) entry rows) e w
+module _ (g entry part : List ℕ) (n : ℕ) (e : n ≡ rules g) (h : row_words (rules g) ≤ length entry) (q : part ≡ replicate (length (take (64 * n) entry)) 0) where
+  pub rules_filled : Cleared (64 * n) entry (part ++ drop (64 * n) entry)
+  rules_filled = filled entry part (64 * n) (omega arith) q
 
-  pub cleared_room : row_words (rules g) ≤ length entry → 64 * rules g ≤ length rows
-  cleared_room h = omega (arith, w.size)
+  pub filled_room : 64 * rules g ≤ length (part ++ drop (64 * n) entry)
+  filled_room = omega (arith, rules_filled.size)
 
-  pub cleared_zero : (j : ℕ) → j < 64 * rules g → word rows j ≡ 0
-  cleared_zero j h = w.zero j (omega arith)
+  pub filled_zero : (j : ℕ) → j < 64 * rules g → word (part ++ drop (64 * n) entry) j ≡ 0
+  filled_zero j l = rules_filled.zero j (omega arith)
+
+pub cleared_rules : (g entry rows : List ℕ) (n : ℕ) → n ≡ rules g → Cleared (64 * n) entry rows → Cleared (64 * rules g) entry rows
+cleared_rules g entry rows n e w = subst (λ (m : ℕ). Cleared (64 * m) entry rows) e w

@@ -17,7 +17,9 @@ use Rattle.order.specs.Computed.{has_cycle, circular, cycle_rule, cycle_occurren
 use Rattle.closing.specs.Rows.{leads}
 use Rattle.plans.specs.Buffers.{over, rows_of}
 use Rattle.inducing.specs.Cycles.{lies, cyclic, cycle_in}
+use Rattle.inducing.proofs.LentLaws.{rule_row}
 use Rattle.inducing.proofs.RowLaws.{over_leads}
+use Rattle.basics.specs.Lists.{word}
 
 -- no occurrence of rule r before o lies on a cycle, and no rule before r is cyclic
 pub record NoneBefore (rows : List ℕ) (r o : ℕ) : Type 0 where
@@ -33,7 +35,7 @@ none_more n f w e k h t =
 module _ (rows : List ℕ) where
   -- the test of one row, as the search meets it
   lies_is : (r o : ℕ) (b : Bool) → b ≡ hasb o (get_or rows (64 * r + o) 0) → b ≡ lies rows r o
-  unfolding lies leads
+  unfolding lies
   lies_is r o b e = e
 
   pub row_start : (r : ℕ) → NoneBefore rows r 0
@@ -103,8 +105,10 @@ some_is_some p e = let z : ◌≡◌ {A = ℕ} 0 1 = ap (λ (o : Option (ℕ × 
 
 module _ (g : List ℕ) (paths : ℕ → ℕ → ℕ → Bool) (lent rows : List ℕ) (is : rows ≡ over (rows_of g paths) lent) where
   lies_paths : (r o : ℕ) → r < rules g → o < 64 → lies rows r o ≡ paths r o o
-  unfolding lies
-  lies_paths r o h l = ap (λ (s : List ℕ). leads s (64 * r) o o) is ∙ over_leads g paths lent r o o h l l
+  unfolding lies leads
+  lies_paths r o h l =
+      ap (λ (s : List ℕ). hasb o (word s (64 * r + o))) is
+      ∙ (ap (λ (s : ℕ). hasb o s) (sym (rule_row (over (rows_of g paths) lent) r o l)) ∙ over_leads g paths lent r o o h l l)
 
   cyclic_has : (r : ℕ) → r < rules g → cyclic rows r ≡ has_cycle g paths r
   unfolding cyclic has_cycle

@@ -30,7 +30,7 @@ use Rattle.closing.specs.Rows.{leads, arcs_at}
 use Rattle.closing.proofs.GatherLaws.{arc_at}
 use Rattle.plans.specs.Buffers.{over, rows_of}
 use Rattle.plans.specs.Answer.{idp_paths}
-use Rattle.inducing.specs.Rules.{Holds, Frame, Cleared, Arcs, Standing}
+use Rattle.inducing.specs.Rules.{rule_rows, Holds, Frame, Cleared, Arcs, Standing}
 use Rattle.inducing.specs.Stale.{Fresh, Stale}
 use Rattle.inducing.proofs.RuleRowLaws.{counts}
 use Rattle.inducing.proofs.HoldsLaws.{frame_then, path_leads, holds_rows}
@@ -92,7 +92,7 @@ module _ (g : List ℕ) (good : read_table g ≡ Good) where
         (subst (λ (n : ℕ). IDS g x ((8 * a + b) / 8) n) q (w.arcs x (8 * a + b) (subst (λ (n : ℕ). T (hasb (8 * a + b) n)) (s_word x) t)))
 
     -- every computed arc of a rule is in its rows
-    induced_leads : (r c d : ℕ) → r < rules g → T (induced_arc g s r c d) → (c < 64) × T (leads rows (64 * r) c d)
+    induced_leads : (r c d : ℕ) → r < rules g → T (induced_arc g s r c d) → (c < 64) × T (leads (rule_rows rows r) c d)
     unfolding induced_arc arc_in
     induced_leads r c d h t =
         let i : ℕ = position c in
@@ -103,13 +103,13 @@ module _ (g : List ℕ) (good : read_table g ≡ Good) where
         let start : 8 * i + k / 8 ≡ c = omega arith in
         let end : 8 * i + k % 8 ≡ d = omega arith in (
           occurs_below g formed r c (counts g good r h) (and_left _ _ t),
-          subst (λ (o : ℕ). T (leads rows (64 * r) o d)) start
-              (subst (λ (o : ℕ). T (leads rows (64 * r) (8 * i + k / 8) o)) end
+          subst (λ (o : ℕ). T (leads (rule_rows rows r) o d)) start
+              (subst (λ (o : ℕ). T (leads (rule_rows rows r) (8 * i + k / 8) o)) end
               ((v r h).spreads i k (occurs_inside g r c (and_left _ _ t))
               (subst (λ (n : ℕ). T (hasb k n)) (s_word (symbol_of g r i)) (and_right _ _ t₂)))),
         )
 
-    arc_leads : (r c d : ℕ) → r < rules g → T (idp g s r c d) → (c < 64) × T (leads rows (64 * r) c d)
+    arc_leads : (r c d : ℕ) → r < rules g → T (idp g s r c d) → (c < 64) × T (leads (rule_rows rows r) c d)
     unfolding idp
     arc_leads r c d h t = ⊎_elim (λ u. w.holds.has r c d h (h, dp_sound g r c d u)) (λ u. induced_leads r c d h u) (or_cases _ _ t)
 
@@ -133,14 +133,14 @@ module _ (g : List ℕ) (good : read_table g ≡ Good) where
         let fb : b < 8 = attribute_fits g formed x b fx lb in
         let ka : a ≡ k / 8 = omega arith in
         let kb : b ≡ k % 8 = omega arith in
-        let way : T (leads rows (64 * r) (8 * i + a) (8 * i + b)) = (path_leads g (λ r a b. T (idp g s r a b)) (λ r a b. IDP⁺ g r a b) rows computed r h p).1 in
+        let way : T (leads (rule_rows rows r) (8 * i + a) (8 * i + b)) = (path_leads g (λ r a b. T (idp g s r a b)) (λ r a b. IDP⁺ g r a b) rows computed r h p).1 in
         let c : ℕ = attributes g (symbol_of g r i) in
         let room : k / 8 < c = omega (arith, ap (attributes g) u.symbol_is) in
-        let here : T (hasb k (arcs_at rows (64 * r) i c)) =
-        subst⁻¹ (λ (z : Bool). T z) (arc_at rows (64 * r) i c k (omega arith))
+        let here : T (hasb k (arcs_at (rule_rows rows r) i c)) =
+        subst⁻¹ (λ (z : Bool). T z) (arc_at (rule_rows rows r) i c k (omega arith))
         (and_intro _ _ (lt→ltb (k / 8) c room)
-        (subst (λ (n : ℕ). T (leads rows (64 * r) (8 * i + n) (8 * i + k % 8))) ka
-        (subst (λ (n : ℕ). T (leads rows (64 * r) (8 * i + a) (8 * i + n))) kb way))) in
+        (subst (λ (n : ℕ). T (leads (rule_rows rows r) (8 * i + n) (8 * i + k % 8))) ka
+        (subst (λ (n : ℕ). T (leads (rule_rows rows r) (8 * i + a) (8 * i + n))) kb way))) in
         subst⁻¹ (λ (n : ℕ). T (hasb k n)) (s_word x)
         (subst (λ (y : ℕ). T (hasb k (word ids y))) u.symbol_is ((v r h).gathers i k u.inside here))
 
@@ -163,17 +163,14 @@ module _ (g : List ℕ) (good : read_table g ≡ Good) where
         (λ r o b h p. (idp_path_exact g good r o b (counts g good r h)).1 p)
 
   -- the rows that were lent, then cleared, then gone through
-  module _ (entry cleared rows ids : List ℕ) (n : ℕ) (e : n ≡ rules g) (c : Cleared (64 * n) entry cleared) (w : Stale g cleared (rules g) 0 rows ids) where
-    frame_all : Frame g entry rows
-    frame_all =
-        let d : Cleared (64 * rules g) entry cleared = cleared_rules g entry cleared n e c in
-        frame_then g entry cleared rows (record { size = d.size; rest = d.rest }) w.frame
-
+  module _ (cleared rows ids : List ℕ) (w : Stale g cleared (rules g) 0 rows ids) where
     all_fresh : (r : ℕ) → r < rules g → Fresh g rows ids r
     all_fresh r h = w.fresh r h (λ t. T_not (hasb r 0) (none_left r) t)
 
     pub induced_state : ids ≡ padded 32 (ids_of g)
-    induced_state = state_is entry rows ids w.standing frame_all all_fresh
+    induced_state = state_is cleared rows ids w.standing w.frame all_fresh
 
-    pub induced_rows : rows ≡ over (rows_of g (idp_paths g (ids_of g))) entry
-    induced_rows = rows_is entry rows ids w.standing frame_all all_fresh
+    pub induced_rows : (entry : List ℕ) (n : ℕ) → n ≡ rules g → Cleared (64 * n) entry cleared → rows ≡ over (rows_of g (idp_paths g (ids_of g))) entry
+    induced_rows entry n e c =
+        let d : Cleared (64 * rules g) entry cleared = cleared_rules g entry cleared n e c in
+        rows_is entry rows ids w.standing (frame_then g entry cleared rows (record { size = d.size; rest = d.rest }) w.frame) all_fresh

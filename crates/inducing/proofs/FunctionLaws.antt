@@ -65,23 +65,23 @@ module _ (g : List ℕ) (f op n count : ℕ) (e : op ≡ get_or g (f + 1) 0) (h 
   pub next_is : (next : ℕ) → next ≡ f + 2 + n → next ≡ f + 2 + argument_words (get_or g (f + 1) 0)
   next_is next q = omega (arith, q, h, ap argument_words e)
 
-  pub arguments_finish : (entry : List ℕ) (base : ℕ) (rows : List ℕ) (j : ℕ) → Marked entry base (FunctionArc g f j) rows → j ≤ count → count ≤ j
-      → Marked entry base (FunctionArc g f (arguments_at g f)) rows
-  arguments_finish entry base rows j w a b =
-      let q : j ≡ arguments_at g f = omega (arith, arguments_are) in subst (λ (i : ℕ). Marked entry base (FunctionArc g f i) rows) q w
+  pub arguments_finish : (entry : List ℕ) (rows : List ℕ) (j : ℕ) → Marked entry (FunctionArc g f j) rows → j ≤ count → count ≤ j
+      → Marked entry (FunctionArc g f (arguments_at g f)) rows
+  arguments_finish entry rows j w a b =
+      let q : j ≡ arguments_at g f = omega (arith, arguments_are) in subst (λ (i : ℕ). Marked entry (FunctionArc g f i) rows) q w
 
 module _ (g : List ℕ) (f : ℕ) where
   pub target_small_law : (b : ℕ) → FunctionSmall g f → b ≡ get_or g f 0 → b < 64
   target_small_law b w e = omega (arith, w.target_small)
 
-  module _ (entry : List ℕ) (base : ℕ) where
-    pub arguments_start : Marked entry base (FunctionArc g f 0) entry
-    arguments_start = marked_none entry base (FunctionArc g f 0) (λ a b s. let h = s.place_fits in omega arith)
+  module _ (entry : List ℕ) where
+    pub arguments_start : Marked entry (FunctionArc g f 0) entry
+    arguments_start = marked_none entry (FunctionArc g f 0) (λ a b s. let h = s.place_fits in omega arith)
 
-    pub arguments_turn : (rows after : List ℕ) (j a target : ℕ) → Marked entry base (FunctionArc g f j) rows → target ≡ get_or g f 0
-        → a ≡ get_or g (f + 2 + j) 0 → Marked rows base (Only a target) after → Marked entry base (FunctionArc g f (j + 1)) after
+    pub arguments_turn : (rows after : List ℕ) (j a target : ℕ) → Marked entry (FunctionArc g f j) rows → target ≡ get_or g f 0
+        → a ≡ get_or g (f + 2 + j) 0 → Marked rows (Only a target) after → Marked entry (FunctionArc g f (j + 1)) after
     arguments_turn rows after j a target w t q v =
-        marked_then entry base rows after (FunctionArc g f j) (Only a target) (FunctionArc g f (j + 1)) w v
+        marked_then entry rows after (FunctionArc g f j) (Only a target) (FunctionArc g f (j + 1)) w v
         (λ c d s.
         ⊎_elim (λ l. inl (record { place = s.place; place_fits = l; argument = s.argument; target = s.target }))
         (λ l. inr (record { start = s.argument ∙ (ap (λ (k : ℕ). word g (f + 2 + k)) l ∙ sym q); end = s.target ∙ sym t }))
@@ -92,27 +92,27 @@ module _ (g : List ℕ) (f : ℕ) where
 -- ---- the arcs of a rule, function by function
 
 -- function k of the rule at word p starts at word f, and the arcs of those before it are marked
-pub record MarkingRule (g : List ℕ) (p : ℕ) (entry : List ℕ) (base k f : ℕ) (rows : List ℕ) : Type 0 where
+pub record MarkingRule (g : List ℕ) (p : ℕ) (entry : List ℕ) (k f : ℕ) (rows : List ℕ) : Type 0 where
   pub starts : f ≡ function_at g p k
   pub near : f ≤ 131075 + 6 * k
-  pub room : base + 64 ≤ length entry
+  pub room : length entry ≡ 64
   pub size : length rows ≡ length entry
-  pub marks : Marked entry base (RuleArc g p k) rows
+  pub marks : Marked entry (RuleArc g p k) rows
 
-module _ (entry : List ℕ) (base : ℕ) (g : List ℕ) (p : ℕ) where
-  pub rule_start : (f : ℕ) → base + 64 ≤ length entry → f ≡ function_at g p 0 → f < 131075 → MarkingRule g p entry base 0 f entry
+module _ (entry : List ℕ) (g : List ℕ) (p : ℕ) where
+  pub rule_start : (f : ℕ) → length entry ≡ 64 → f ≡ function_at g p 0 → f < 131075 → MarkingRule g p entry 0 f entry
   rule_start f r e h =
       record {
         starts = e;
         near = omega arith;
         room = r;
         size = refl;
-        marks = marked_none entry base (RuleArc g p 0) (λ a b s. let h = s.function_fits in omega arith);
+        marks = marked_none entry (RuleArc g p 0) (λ a b s. let h = s.function_fits in omega arith);
       }
 
-  pub rule_turn : (rows : List ℕ) (k n f next : ℕ) (after : List ℕ) → MarkingRule g p entry base k f rows
-      → n ≡ functions_at g p → k < n → Marked rows base (FunctionArc g f (arguments_at g f)) after
-      → next ≡ f + 2 + argument_words (get_or g (f + 1) 0) → next ≤ f + 6 → MarkingRule g p entry base (k + 1) next after
+  pub rule_turn : (rows : List ℕ) (k n f next : ℕ) (after : List ℕ) → MarkingRule g p entry k f rows
+      → n ≡ functions_at g p → k < n → Marked rows (FunctionArc g f (arguments_at g f)) after
+      → next ≡ f + 2 + argument_words (get_or g (f + 1) 0) → next ≤ f + 6 → MarkingRule g p entry (k + 1) next after
   unfolding function_at
   rule_turn rows k n f next after v m l u q h =
       record {
@@ -120,7 +120,7 @@ module _ (entry : List ℕ) (base : ℕ) (g : List ℕ) (p : ℕ) where
         near = omega (arith, v.near);
         room = v.room;
         size = u.grown.size ∙ v.size;
-        marks = marked_then entry base rows after (RuleArc g p k) (FunctionArc g f (arguments_at g f)) (RuleArc g p (k + 1)) v.marks u
+        marks = marked_then entry rows after (RuleArc g p k) (FunctionArc g f (arguments_at g f)) (RuleArc g p (k + 1)) v.marks u
             (λ c d s.
             ⊎_elim (λ i. inl (record { function = s.function; function_fits = i; arc = s.arc }))
             (λ i.
@@ -131,12 +131,12 @@ module _ (entry : List ℕ) (base : ℕ) (g : List ℕ) (p : ℕ) where
             (λ c d s. record { function = k; function_fits = omega arith; arc = subst (λ (j : ℕ). FunctionArc g j (arguments_at g j) c d) v.starts s });
       }
 
-  pub rule_finish : (rows : List ℕ) (k n f : ℕ) → MarkingRule g p entry base k f rows → n ≡ functions_at g p → k ≤ n → n ≤ k
-      → Marked entry base (RuleArc g p (functions_at g p)) rows
+  pub rule_finish : (rows : List ℕ) (k n f : ℕ) → MarkingRule g p entry k f rows → n ≡ functions_at g p → k ≤ n → n ≤ k
+      → Marked entry (RuleArc g p (functions_at g p)) rows
   rule_finish rows k n f v m h l =
-      let e : k ≡ functions_at g p = omega arith in subst (λ (i : ℕ). Marked entry base (RuleArc g p i) rows) e v.marks
+      let e : k ≡ functions_at g p = omega arith in subst (λ (i : ℕ). Marked entry (RuleArc g p i) rows) e v.marks
 
   -- the function that is next has rows and places
-  pub next_small : (rows : List ℕ) (k n f : ℕ) → FunctionsSmall g p → MarkingRule g p entry base k f rows → n ≡ functions_at g p → k < n
+  pub next_small : (rows : List ℕ) (k n f : ℕ) → FunctionsSmall g p → MarkingRule g p entry k f rows → n ≡ functions_at g p → k < n
       → FunctionSmall g f
   next_small rows k n f w v m l = subst⁻¹ (λ (i : ℕ). FunctionSmall g i) v.starts (w k (omega arith))

@@ -69,16 +69,16 @@ added_new x arcs names ids new v e z fits h l m =
     here k t = subst⁻¹ (λ (n : ℕ). T (hasb k n)) same (union_right k (word ids x) new t)
 
 -- the symbol, its attributes and the arcs, as they are fetched
-pub added_here : (g : List ℕ) (p i : ℕ) (rows : List ℕ) (base : ℕ) (naming ids after : List ℕ) (x count arcs touched : ℕ) → x ≡ symbol_from g p i
-    → count ≡ attributes g x → arcs ≡ arcs_at rows base i count → Added x arcs (get_or naming x 0) ids after touched
-    → AddedAt g p i rows base naming ids after touched
-added_here g p i rows base naming ids after x count arcs touched e c a v =
-    subst (λ (y : ℕ). Added y (arcs_at rows base i (attributes g y)) (word naming y) ids after touched) e
-    (subst (λ (n : ℕ). Added x (arcs_at rows base i n) (word naming x) ids after touched) c
+pub added_here : (g : List ℕ) (p i : ℕ) (rows : List ℕ) (naming ids after : List ℕ) (x count arcs touched : ℕ) → x ≡ symbol_from g p i
+    → count ≡ attributes g x → arcs ≡ arcs_at rows i count → Added x arcs (get_or naming x 0) ids after touched
+    → AddedAt g p i rows naming ids after touched
+added_here g p i rows naming ids after x count arcs touched e c a v =
+    subst (λ (y : ℕ). Added y (arcs_at rows i (attributes g y)) (word naming y) ids after touched) e
+    (subst (λ (n : ℕ). Added x (arcs_at rows i n) (word naming x) ids after touched) c
     (subst (λ (s : ℕ). Added x s (word naming x) ids after touched) a v))
 
-module _ (g : List ℕ) (p : ℕ) (rows : List ℕ) (base : ℕ) (naming ids : List ℕ) where
-  pub gathering_start : Gathering g p rows base 0 naming ids ids 0
+module _ (g : List ℕ) (p : ℕ) (rows : List ℕ) (naming ids : List ℕ) where
+  pub gathering_start : Gathering g p rows 0 naming ids ids 0
   gathering_start =
       record {
         gathered = record { size = refl; keeps = λ x k t. t; has = λ i k h t. absurd (omega arith); sound = λ x k t. inl t };
@@ -87,8 +87,8 @@ module _ (g : List ℕ) (p : ℕ) (rows : List ℕ) (base : ℕ) (naming ids : L
       }
 
   -- one position more
-  module _ (mid : List ℕ) (touched i : ℕ) (after : List ℕ) (more next : ℕ) (w : Gathering g p rows base i naming ids mid touched)
-      (v : AddedAt g p i rows base naming mid after more) (m : next ≡ union touched more) where
+  module _ (mid : List ℕ) (touched i : ℕ) (after : List ℕ) (more next : ℕ) (w : Gathering g p rows i naming ids mid touched)
+      (v : AddedAt g p i rows naming mid after more) (m : next ≡ union touched more) where
     x : ℕ
     x = symbol_from g p i
 
@@ -98,21 +98,21 @@ module _ (g : List ℕ) (p : ℕ) (rows : List ℕ) (base : ℕ) (naming ids : L
         ⊎_elim (λ s. subst⁻¹ (λ (z : ℕ). T (hasb k (word after z))) s (v.keeps k (subst (λ (z : ℕ). T (hasb k (word mid z))) s t)))
         (λ s. subst⁻¹ (λ (z : ℕ). T (hasb k z)) (v.others y s) t) (same_or_not y x)
 
-    new : (j k : ℕ) → j ≡ i → T (hasb k (arcs_at rows base j (attributes g (symbol_from g p j)))) → T (hasb k (word after (symbol_from g p j)))
+    new : (j k : ℕ) → j ≡ i → T (hasb k (arcs_at rows j (attributes g (symbol_from g p j)))) → T (hasb k (word after (symbol_from g p j)))
     new j k s t =
         subst⁻¹ (λ (z : ℕ). T (hasb k (word after (symbol_from g p z)))) s
-        (v.has k (subst (λ (z : ℕ). T (hasb k (arcs_at rows base z (attributes g (symbol_from g p z))))) s t))
+        (v.has k (subst (λ (z : ℕ). T (hasb k (arcs_at rows z (attributes g (symbol_from g p z))))) s t))
 
     old : (y k : ℕ) → T (hasb k (word mid y))
-        → T (hasb k (word ids y)) ⊎ ((j : ℕ) × (j < i + 1) × (symbol_from g p j ≡ y) × T (hasb k (arcs_at rows base j (attributes g y))))
+        → T (hasb k (word ids y)) ⊎ ((j : ℕ) × (j < i + 1) × (symbol_from g p j ≡ y) × T (hasb k (arcs_at rows j (attributes g y))))
     old y k t = ⊎_elim (λ s. inl s) (λ s. inr (s.0, omega (arith, s.1), s.2, s.3)) (w.gathered.sound y k t)
 
     here : (y k : ℕ) → y ≡ x → T (hasb k (word after y))
-        → T (hasb k (word ids y)) ⊎ ((j : ℕ) × (j < i + 1) × (symbol_from g p j ≡ y) × T (hasb k (arcs_at rows base j (attributes g y))))
+        → T (hasb k (word ids y)) ⊎ ((j : ℕ) × (j < i + 1) × (symbol_from g p j ≡ y) × T (hasb k (arcs_at rows j (attributes g y))))
     unfolding x
     here y k s t =
         ⊎_elim (λ l. old y k (subst⁻¹ (λ (z : ℕ). T (hasb k (word mid z))) s l))
-        (λ l. inr (i, omega arith, sym s, subst⁻¹ (λ (z : ℕ). T (hasb k (arcs_at rows base i (attributes g z)))) s l))
+        (λ l. inr (i, omega arith, sym s, subst⁻¹ (λ (z : ℕ). T (hasb k (arcs_at rows i (attributes g z)))) s l))
         (v.sound k (subst (λ (z : ℕ). T (hasb k (word after z))) s t))
 
     touch : (y k q : ℕ) → T (hasb k (word after y)) → T (hasb q (word naming y)) → T (hasb k (word mid y)) ⊎ T (hasb q more)
@@ -134,7 +134,7 @@ module _ (g : List ℕ) (p : ℕ) (rows : List ℕ) (base : ℕ) (naming ids : L
     lacking : (y k : ℕ) → T (not (hasb k (word mid y))) → T (not (hasb k (word ids y)))
     lacking y k t = not_T (hasb k (word ids y)) (λ s. T_not (hasb k (word mid y)) t (w.gathered.keeps y k s))
 
-    pub gathering_turn : Gathering g p rows base (i + 1) naming ids after next
+    pub gathering_turn : Gathering g p rows (i + 1) naming ids after next
     unfolding x
     gathering_turn =
         record {
@@ -165,7 +165,7 @@ module _ (g : List ℕ) (p : ℕ) (rows : List ℕ) (base : ℕ) (naming ids : L
               (union_cases q touched more (subst (λ (n : ℕ). T (hasb q n)) m t));
         }
 
-  pub gathering_finish : (after : List ℕ) (touched n i : ℕ) → Gathering g p rows base i naming ids after touched → n ≡ length_at g p → i ≤ n + 1
-      → n + 1 ≤ i → Gathering g p rows base (length_at g p + 1) naming ids after touched
+  pub gathering_finish : (after : List ℕ) (touched n i : ℕ) → Gathering g p rows i naming ids after touched → n ≡ length_at g p → i ≤ n + 1
+      → n + 1 ≤ i → Gathering g p rows (length_at g p + 1) naming ids after touched
   gathering_finish after touched n i v e h l =
-      let q : i ≡ length_at g p + 1 = omega arith in subst (λ (j : ℕ). Gathering g p rows base j naming ids after touched) q v
+      let q : i ≡ length_at g p + 1 = omega arith in subst (λ (j : ℕ). Gathering g p rows j naming ids after touched) q v

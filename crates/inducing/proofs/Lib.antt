@@ -1,3 +1,4 @@
+pub mod LentLaws
 pub mod RowLaws
 pub mod CycleLaws
 pub mod GrownLaws

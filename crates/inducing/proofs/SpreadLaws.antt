@@ -24,9 +24,9 @@ use Rattle.inducing.proofs.FunctionLaws.{functions_inside}
 use Rattle.inducing.proofs.JoinLaws.{joined_there, joined_then}
 
 -- an arc that is gathered at a position: it starts at an attribute there, and the rows lead along it
-pub arc_leads : (rows : List ℕ) (base i count k : ℕ) → T (hasb k (arcs_at rows base i count)) → T (leads rows base (8 * i + k / 8) (8 * i + k % 8))
-arc_leads rows base i count k t =
-    and_right _ _ (subst (λ (b : Bool). T b) (arc_at rows base i count k (hasb_below 64 k _ (arcs_lt rows base i count) t)) t)
+pub arc_leads : (rows : List ℕ) (i count k : ℕ) → T (hasb k (arcs_at rows i count)) → T (leads rows (8 * i + k / 8) (8 * i + k % 8))
+arc_leads rows i count k t =
+    and_right _ _ (subst (λ (b : Bool). T b) (arc_at rows i count k (hasb_below 64 k _ (arcs_lt rows i count) t)) t)
 
 -- the symbol at a position of a rule
 module _ (g : List ℕ) (p : ℕ) (w : Ruled g p) (i : ℕ) (h : i ≤ length_at g p) where
@@ -42,18 +42,18 @@ module _ (g : List ℕ) (p : ℕ) (w : Ruled g p) (i : ℕ) (h : i ≤ length_at
 pub position_inside : (g : List ℕ) (p n i : ℕ) → n ≡ length_at g p → i < n + 1 → i ≤ length_at g p
 position_inside g p n i e h = omega arith
 
-module _ (entry : List ℕ) (base : ℕ) (g : List ℕ) (p : ℕ) (arcs : List ℕ) where
-  pub spread_start : Joined entry 0 base (SpreadArc g p arcs 0) entry 0
-  spread_start = joined_there entry 0 base (SpreadArc g p arcs 0) (λ a b s. absurd (let h = s.place_fits in omega arith))
+module _ (entry : List ℕ) (g : List ℕ) (p : ℕ) (arcs : List ℕ) where
+  pub spread_start : Joined entry 0 (SpreadArc g p arcs 0) entry 0
+  spread_start = joined_there entry 0 (SpreadArc g p arcs 0) (λ a b s. absurd (let h = s.place_fits in omega arith))
 
-  pub spread_here : (set more : ℕ) (after : List ℕ) (i x : ℕ) → x ≡ symbol_from g p i → Joined entry set base (ArcAt i (get_or arcs x 0)) after more
-      → Joined entry set base (ArcAt i (word arcs (symbol_from g p i))) after more
-  spread_here set more after i x q v = subst (λ (y : ℕ). Joined entry set base (ArcAt i (word arcs y)) after more) q v
+  pub spread_here : (set more : ℕ) (after : List ℕ) (i x : ℕ) → x ≡ symbol_from g p i → Joined entry set (ArcAt i (get_or arcs x 0)) after more
+      → Joined entry set (ArcAt i (word arcs (symbol_from g p i))) after more
+  spread_here set more after i x q v = subst (λ (y : ℕ). Joined entry set (ArcAt i (word arcs y)) after more) q v
 
-  pub spread_turn : (rows : List ℕ) (i more most : ℕ) (after : List ℕ) → Joined entry 0 base (SpreadArc g p arcs i) rows more
-      → Joined rows more base (ArcAt i (word arcs (symbol_from g p i))) after most → Joined entry 0 base (SpreadArc g p arcs (i + 1)) after most
+  pub spread_turn : (rows : List ℕ) (i more most : ℕ) (after : List ℕ) → Joined entry 0 (SpreadArc g p arcs i) rows more
+      → Joined rows more (ArcAt i (word arcs (symbol_from g p i))) after most → Joined entry 0 (SpreadArc g p arcs (i + 1)) after most
   spread_turn rows i more most after v u =
-      joined_then entry 0 base rows after more most (SpreadArc g p arcs i) (ArcAt i (word arcs (symbol_from g p i))) (SpreadArc g p arcs (i + 1)) v u
+      joined_then entry 0 rows after more most (SpreadArc g p arcs i) (ArcAt i (word arcs (symbol_from g p i))) (SpreadArc g p arcs (i + 1)) v u
       (λ c d s.
       ⊎_elim (λ l. inl (record { place = s.place; place_fits = l; arc = s.arc }))
       (λ l. inr (subst (λ (j : ℕ). ArcAt j (word arcs (symbol_from g p j)) c d) l s.arc))
@@ -61,10 +61,10 @@ module _ (entry : List ℕ) (base : ℕ) (g : List ℕ) (p : ℕ) (arcs : List �
       (λ c d s. record { place = s.place; place_fits = omega (arith, s.place_fits); arc = s.arc })
       (λ c d s. record { place = i; place_fits = omega arith; arc = s })
 
-  pub spread_finish : (rows : List ℕ) (n i more : ℕ) → Joined entry 0 base (SpreadArc g p arcs i) rows more → n ≡ length_at g p → i ≤ n + 1 → n + 1 ≤ i
-      → Joined entry 0 base (SpreadArc g p arcs (length_at g p + 1)) rows more
+  pub spread_finish : (rows : List ℕ) (n i more : ℕ) → Joined entry 0 (SpreadArc g p arcs i) rows more → n ≡ length_at g p → i ≤ n + 1 → n + 1 ≤ i
+      → Joined entry 0 (SpreadArc g p arcs (length_at g p + 1)) rows more
   spread_finish rows n i more v e h l =
-      let q : i ≡ length_at g p + 1 = omega arith in subst (λ (j : ℕ). Joined entry 0 base (SpreadArc g p arcs j) rows more) q v
+      let q : i ≡ length_at g p + 1 = omega arith in subst (λ (j : ℕ). Joined entry 0 (SpreadArc g p arcs j) rows more) q v
 
 -- the ends of the arcs of the symbols are occurrences
 pub spread_inside : (g : List ℕ) (p : ℕ) (arcs : List ℕ) (among : ℕ) → ArcsFit g p among arcs → Inside among (SpreadArc g p arcs (length_at g p + 1))
@@ -73,9 +73,9 @@ spread_inside g p arcs among f c d s =
     (subst⁻¹ (λ (o : ℕ). T (hasb o among)) s.arc.start t.0, subst⁻¹ (λ (o : ℕ). T (hasb o among)) s.arc.end t.1)
 
 -- Arcs between occurrences that are added to closed rows: paths meet at every occurrence but those from which arcs start.
-pub joined_meeting : (before : List ℕ) (base among : ℕ) (arc : ℕ → ℕ → Type 0) (after : List ℕ) (starts : ℕ) → Kept before base among → among < 2 ^ 64
-    → Inside among arc → Joined before 0 base arc after starts → Meeting after base among starts
-joined_meeting before base among arc after starts k small inside w =
+pub joined_meeting : (before : List ℕ) (among : ℕ) (arc : ℕ → ℕ → Type 0) (after : List ℕ) (starts : ℕ) → Kept before among → among < 2 ^ 64
+    → Inside among arc → Joined before 0 arc after starts → Meeting after among starts
+joined_meeting before among arc after starts k small inside w =
     record {
       within = λ o t.
           ⊎_elim (λ s. absurd (T_not (hasb o 0) (none_left o) s)) (λ s. (inside o s.0 s.1).0) (w.starts o t);
@@ -89,11 +89,11 @@ opening_parts : (g : List ℕ) (p : ℕ) (arcs : List ℕ) (c d : ℕ) → Openi
 opening_parts g p arcs c d (of_rule s) = inl s
 opening_parts g p arcs c d (of_symbol s) = inr s
 
-pub opening_grown : (before : List ℕ) (base : ℕ) (g : List ℕ) (p : ℕ) (arcs mid after : List ℕ) (starts : ℕ)
-    → Marked before base (RuleArc g p (functions_at g p)) mid → Joined mid 0 base (SpreadArc g p arcs (length_at g p + 1)) after starts
-    → Grown before base (OpeningArc g p arcs) after
-opening_grown before base g p arcs mid after starts v u =
-    grown_then before base mid after (RuleArc g p (functions_at g p)) (SpreadArc g p arcs (length_at g p + 1)) (OpeningArc g p arcs) v.grown u.grown
+pub opening_grown : (before : List ℕ) (g : List ℕ) (p : ℕ) (arcs mid after : List ℕ) (starts : ℕ)
+    → Marked before (RuleArc g p (functions_at g p)) mid → Joined mid 0 (SpreadArc g p arcs (length_at g p + 1)) after starts
+    → Grown before (OpeningArc g p arcs) after
+opening_grown before g p arcs mid after starts v u =
+    grown_then before mid after (RuleArc g p (functions_at g p)) (SpreadArc g p arcs (length_at g p + 1)) (OpeningArc g p arcs) v.grown u.grown
     (opening_parts g p arcs) (λ c d s. of_rule s) (λ c d s. of_symbol s)
 
 pub opening_inside : (g : List ℕ) (p among : ℕ) (arcs : List ℕ) → FunctionsFit g p among → ArcsFit g p among arcs → Inside among (OpeningArc g p arcs)

@@ -69,9 +69,9 @@ abbrev pub ArcsFit : List ℕ → ℕ → ℕ → List ℕ → Type 0
 ArcsFit g p among arcs = (i : ℕ) → i ≤ length_at g p → Ends among i (word arcs (symbol_from g p i))
 
 -- the arcs at the first n positions of the rule at word p, put to those of their symbols
-pub record Gathered (g : List ℕ) (p : ℕ) (rows : List ℕ) (base n : ℕ) (ids after : List ℕ) : Type 0 where
+pub record Gathered (g : List ℕ) (p : ℕ) (rows : List ℕ) (n : ℕ) (ids after : List ℕ) : Type 0 where
   pub size : length after ≡ length ids
   pub keeps : (x k : ℕ) → T (hasb k (word ids x)) → T (hasb k (word after x))
-  pub has : (i k : ℕ) → i < n → T (hasb k (arcs_at rows base i (attributes g (symbol_from g p i)))) → T (hasb k (word after (symbol_from g p i)))
+  pub has : (i k : ℕ) → i < n → T (hasb k (arcs_at rows i (attributes g (symbol_from g p i)))) → T (hasb k (word after (symbol_from g p i)))
   pub sound : (x k : ℕ) → T (hasb k (word after x))
-      → T (hasb k (word ids x)) ⊎ ((i : ℕ) × (i < n) × (symbol_from g p i ≡ x) × T (hasb k (arcs_at rows base i (attributes g x))))
+      → T (hasb k (word ids x)) ⊎ ((i : ℕ) × (i < n) × (symbol_from g p i ≡ x) × T (hasb k (arcs_at rows i (attributes g x))))

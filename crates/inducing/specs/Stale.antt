@@ -8,7 +8,7 @@ use Rattle.grammar.specs.Table.{rules, attributes, right_length, symbol_of}
 use Rattle.access.specs.ByPlace.{symbol_from}
 use Rattle.closing.specs.Rows.{leads, arcs_at}
 use Rattle.inducing.specs.Arcs.{Gathered}
-use Rattle.inducing.specs.Rules.{Frame, Standing}
+use Rattle.inducing.specs.Rules.{rule_rows, Frame, Standing}
 
 -- rule r put into the set of each symbol at its first n positions
 pub record NamedAt (g : List ℕ) (r n : ℕ) (before after : List ℕ) : Type 0 where
@@ -41,9 +41,9 @@ pub record Added (x arcs names : ℕ) (ids after : List ℕ) (touched : ℕ) : T
   pub new : (q : ℕ) → T (hasb q touched) → NewArc x ids after
 
 -- those at position i of the rule at word p, put to those of the symbol there
-abbrev pub AddedAt : List ℕ → ℕ → ℕ → List ℕ → ℕ → List ℕ → List ℕ → List ℕ → ℕ → Type 0
-AddedAt g p i rows base naming ids after touched =
-    Added (symbol_from g p i) (arcs_at rows base i (attributes g (symbol_from g p i))) (word naming (symbol_from g p i)) ids after touched
+abbrev pub AddedAt : List ℕ → ℕ → ℕ → List ℕ → List ℕ → List ℕ → List ℕ → ℕ → Type 0
+AddedAt g p i rows naming ids after touched =
+    Added (symbol_from g p i) (arcs_at rows i (attributes g (symbol_from g p i))) (word naming (symbol_from g p i)) ids after touched
 
 -- why rule q is touched: it names a symbol that has a new arc
 pub record Reason (naming ids after : List ℕ) (q : ℕ) : Type 0 where
@@ -52,15 +52,15 @@ pub record Reason (naming ids after : List ℕ) (q : ℕ) : Type 0 where
   pub new : NewArc symbol ids after
 
 -- the arcs at the first n positions of the rule at word p, put to those of their symbols, and the rules that this touches
-pub record Gathering (g : List ℕ) (p : ℕ) (rows : List ℕ) (base n : ℕ) (naming ids after : List ℕ) (touched : ℕ) : Type 0 where
-  pub gathered : Gathered g p rows base n ids after
+pub record Gathering (g : List ℕ) (p : ℕ) (rows : List ℕ) (n : ℕ) (naming ids after : List ℕ) (touched : ℕ) : Type 0 where
+  pub gathered : Gathered g p rows n ids after
   pub touches : (x k q : ℕ) → T (hasb k (word after x)) → T (hasb q (word naming x)) → T (hasb k (word ids x)) ⊎ T (hasb q touched)
   pub reason : (q : ℕ) → T (hasb q touched) → Reason naming ids after q
 
 -- rule r has the arcs of its symbols at each position, and what its paths induce is in the state
 pub record Fresh (g rows ids : List ℕ) (r : ℕ) : Type 0 where
-  pub spreads : (i k : ℕ) → i ≤ right_length g r → T (hasb k (word ids (symbol_of g r i))) → T (leads rows (64 * r) (8 * i + k / 8) (8 * i + k % 8))
-  pub gathers : (i k : ℕ) → i ≤ right_length g r → T (hasb k (arcs_at rows (64 * r) i (attributes g (symbol_of g r i)))) → T (hasb k (word ids (symbol_of g r i)))
+  pub spreads : (i k : ℕ) → i ≤ right_length g r → T (hasb k (word ids (symbol_of g r i))) → T (leads (rule_rows rows r) (8 * i + k / 8) (8 * i + k % 8))
+  pub gathers : (i k : ℕ) → i ≤ right_length g r → T (hasb k (arcs_at (rule_rows rows r) i (attributes g (symbol_of g r i)))) → T (hasb k (word ids (symbol_of g r i)))
 
 -- after rule r took up the arcs of its symbols and handed on its own, and DP of the first n rules is there: whatever is not touched is fresh, or as
 -- it was

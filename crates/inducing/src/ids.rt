@@ -9,20 +9,21 @@ ghost use Rattle.inducing.specs.Rules as rules;
 ghost use Rattle.inducing.specs.Arcs as said;
 ghost use Rattle.inducing.specs.Stale as state;
 
-use access::Table;
+use access::{Rule, Table};
 use grammar::ROWS;
 
 // Puts rule r to the rules that name each of its symbols.
 fn name_rule(table: &Table<'_>, r: usize, naming: &mut [u64; 32])
     requires inside { r < tables.rules table.now.words.now }
-    requires naming_len { length naming.old ≡ 32 }
     ensures { state.NamedAt table.now.words.now r (tables.right_length table.now.words.now r + 1) naming.old naming.new }
 {
-    let words = table.words;
-    let p = table.rule_at(r);
-    let n = access::right_length(words, p);
+    let rule = Rule {
+        words: table.words,
+        at: table.rule_at(r),
+    };
+    let n = rule.right_length();
     for i in 0..n + 1 {
-        let x = access::symbol_of(words, p, i);
+        let x = rule.symbol(i);
         naming[x] = bits::with(naming[x], r);
     }
 }
@@ -41,7 +42,7 @@ fn name_rules(table: &Table<'_>) -> [u64; 32]
 
 // Puts arcs to those of symbol x, and answers the rules that this touches: those that name x where an arc is new, else none.
 fn add_arcs(ids: &mut [u64; 32], x: usize, arcs: u64, names: u64) -> u64
-    requires { (x < 32) × (length ids.old ≡ 32) }
+    requires { x < 32 }
     ensures { state.Added x arcs names ids.old ids.new result }
 {
     let new = bits::minus(arcs, ids[x]);
@@ -52,43 +53,32 @@ fn add_arcs(ids: &mut [u64; 32], x: usize, arcs: u64, names: u64) -> u64
     names
 }
 
-// Puts the arcs at position i of the rule at word p to those of the symbol there, and answers the rules that this touches.
+// Puts the arcs at position i of a rule to those of the symbol there, and answers the rules that this touches.
 fn gather_at(
-    words: &[u16],
-    p: usize,
+    rule: &Rule<'_>,
     i: usize,
-    rows: &[u64],
-    base: usize,
+    rows: &[u64; ROWS],
     naming: &[u64; 32],
     ids: &mut [u64; 32],
 ) -> u64
-    requires base_in_bounds { (base + 64 ≤ length rows.now) × (length ids.old ≡ 32) }
-    requires ruled { said.Ruled words.now p }
-    requires i_bound { i ≤ tables.length_at words.now p }
-    ensures { state.AddedAt words.now p i rows.now base naming.now ids.old ids.new result }
+    requires ruled { said.Ruled rule.now.words.now rule.now.at }
+    requires i_bound { i ≤ tables.length_at rule.now.words.now rule.now.at }
+    ensures { state.AddedAt rule.now.words.now rule.now.at i rows.now naming.now ids.old ids.new result }
 {
-    let x = access::symbol_of(words, p, i);
-    let arcs = closing::arcs_at(rows, base, i, access::attributes(words, x));
+    let x = rule.symbol(i);
+    let arcs = closing::arcs_at(rows, i, access::attributes(rule.words, x));
     add_arcs(ids, x, arcs, naming[x])
 }
 
 // The same at each of its positions.
-fn gather(
-    words: &[u16],
-    p: usize,
-    rows: &[u64],
-    base: usize,
-    naming: &[u64; 32],
-    ids: &mut [u64; 32],
-) -> u64
-    requires base_in_bounds { (base + 64 ≤ length rows.now) × (length ids.old ≡ 32) }
-    requires ruled { said.Ruled words.now p }
-    ensures { state.Gathering words.now p rows.now base (tables.length_at words.now p + 1) naming.now ids.old ids.new result }
+fn gather(rule: &Rule<'_>, rows: &[u64; ROWS], naming: &[u64; 32], ids: &mut [u64; 32]) -> u64
+    requires ruled { said.Ruled rule.now.words.now rule.now.at }
+    ensures { state.Gathering rule.now.words.now rule.now.at rows.now (tables.length_at rule.now.words.now rule.now.at + 1) naming.now ids.old ids.new result }
 {
-    let n = access::right_length(words, p);
+    let n = rule.right_length();
     let mut touched = 0;
     for i in 0..n + 1 {
-        let more = gather_at(words, p, i, rows, base, naming, ids);
+        let more = gather_at(rule, i, rows, naming, ids);
         touched = bits::union(touched, more);
     }
     touched
@@ -107,11 +97,14 @@ fn open(
     requires standing { rules.Standing table.now.words.now r rows.old ids.old }
     ensures { state.Refreshed table.now.words.now naming.now (r + 1) r rows.old ids.old rows.new ids.new result }
 {
-    let words = table.words;
-    let p = table.rule_at(r);
-    let among = access::occurrence_set(words, p);
-    super::open(words, p, rows, ROWS * r, among, ids);
-    gather(words, p, rows, ROWS * r, naming, ids)
+    let rule = Rule {
+        words: table.words,
+        at: table.rule_at(r),
+    };
+    let (_, later) = rows.split_at_mut(ROWS * r);
+    let own = later.first_chunk_mut::<ROWS>().unwrap();
+    super::open(&rule, own, rule.occurrences(), ids);
+    gather(&rule, own, naming, ids)
 }
 
 // The same for a rule that has DP and is taken up again.
@@ -127,11 +120,14 @@ fn refresh(
     requires standing { rules.Standing table.now.words.now (tables.rules table.now.words.now) rows.old ids.old }
     ensures { state.Refreshed table.now.words.now naming.now (tables.rules table.now.words.now) r rows.old ids.old rows.new ids.new result }
 {
-    let words = table.words;
-    let p = table.rule_at(r);
-    let among = access::occurrence_set(words, p);
-    super::spread(words, p, rows, ROWS * r, among, ids);
-    gather(words, p, rows, ROWS * r, naming, ids)
+    let rule = Rule {
+        words: table.words,
+        at: table.rule_at(r),
+    };
+    let (_, later) = rows.split_at_mut(ROWS * r);
+    let own = later.first_chunk_mut::<ROWS>().unwrap();
+    super::spread(&rule, own, rule.occurrences(), ids);
+    gather(&rule, own, naming, ids)
 }
 
 // The stale rule to take up next: the lowest from `from` on, else the lowest of all. So the rules are gone through upward, over and over.
@@ -190,8 +186,8 @@ fn settle(table: &Table<'_>, naming: &[u64; 32], rows: &mut [u64], ids: &mut [u6
 
 // Steps 1 and 2 for rows that are empty. The answer is the arcs of every symbol.
 pub fn induced(table: &Table<'_>, rows: &mut [u64]) -> [u64; 32]
-    requires words_in_bounds { 64 * tables.rules table.now.words.now ≤ length rows.old }
-    requires by_index { (j : ℕ) → j < 64 * tables.rules table.now.words.now → word rows.old j ≡ 0 }
+    requires room { 64 * tables.rules table.now.words.now ≤ length rows.old }
+    requires empty { (j : ℕ) → j < 64 * tables.rules table.now.words.now → word rows.old j ≡ 0 }
     ensures { state.Stale table.now.words.now rows.old (tables.rules table.now.words.now) 0 rows.new result }
 {
     let naming = name_rules(table);

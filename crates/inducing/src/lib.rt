@@ -19,7 +19,7 @@ ghost use Rattle.plans.specs.Buffers.{over, rows_of};
 ghost use Rattle.plans.specs.Answer.{idp_paths};
 ghost use Rattle.inducing.specs.Arcs as said;
 
-use access::Table;
+use access::{Rule, Table};
 use grammar::ROWS;
 
 // The lowest-numbered rule, and in it the lowest occurrence, that lies on a cycle.
@@ -50,101 +50,95 @@ fn missing(row: u64, i: usize, arcs: u64, a: usize) -> u64
 }
 
 // Adds those with all that they lead on to, and puts the occurrence from which they start to a set, if there are any.
-fn join_from(rows: &mut [u64], base: usize, i: usize, arcs: u64, a: usize, starts: u64) -> u64
-    requires { (base + 64 ≤ length rows.old) × ((i < 8) × (a < 8)) }
-    ensures { Joined rows.old starts base (ArcOut i arcs a) rows.new result }
+fn join_from(rows: &mut [u64; ROWS], i: usize, arcs: u64, a: usize, starts: u64) -> u64
+    requires { (i < 8) × (a < 8) }
+    ensures { Joined rows.old starts (ArcOut i arcs a) rows.new result }
 {
     let o = 8 * i + a;
-    let to = missing(rows[base + o], i, arcs, a);
+    let to = missing(rows[o], i, arcs, a);
     if to == 0 {
         return starts;
     }
-    closing::extend_row(rows, base, o, to);
+    closing::extend_row(rows, o, to);
     bits::with(starts, o)
 }
 
 // The same for the arcs from every attribute, up to the highest that has some.
-fn join_at(rows: &mut [u64], base: usize, i: usize, arcs: u64, starts: u64) -> u64
-    requires { (base + 64 ≤ length rows.old) × (i < 8) }
-    ensures { Joined rows.old starts base (ArcAt i arcs) rows.new result }
+fn join_at(rows: &mut [u64; ROWS], i: usize, arcs: u64, starts: u64) -> u64
+    requires { i < 8 }
+    ensures { Joined rows.old starts (ArcAt i arcs) rows.new result }
 {
     let mut more = starts;
     for a in 0..8usize {
         if arcs < bits::single(8 * a) {
             return more;
         }
-        more = join_from(rows, base, i, arcs, a, more);
+        more = join_from(rows, i, arcs, a, more);
     }
     more
 }
 
-// The same at position i of the rule at word p, for the arcs that the symbol there has.
+// The same at position i of a rule, for the arcs that the symbol there has.
 fn join_symbol(
-    words: &[u16],
-    p: usize,
+    rule: &Rule<'_>,
     i: usize,
-    rows: &mut [u64],
-    base: usize,
+    rows: &mut [u64; ROWS],
     arcs: &[u64; 32],
     starts: u64,
 ) -> u64
-    requires base_in_bounds { (base + 64 ≤ length rows.old) × (i ≤ tables.length_at words.now p) }
-    requires ruled { said.Ruled words.now p }
-    ensures { Joined rows.old starts base (ArcAt i (word arcs.now (symbol_from words.now p i))) rows.new result }
+    requires i_bound { i ≤ tables.length_at rule.now.words.now rule.now.at }
+    requires ruled { said.Ruled rule.now.words.now rule.now.at }
+    ensures { Joined rows.old starts (ArcAt i (word arcs.now (symbol_from rule.now.words.now rule.now.at i))) rows.new result }
 {
-    let x = access::symbol_of(words, p, i);
-    join_at(rows, base, i, arcs[x], starts)
+    let x = rule.symbol(i);
+    join_at(rows, i, arcs[x], starts)
 }
 
 // The same at each of its positions.
-fn join_symbols(words: &[u16], p: usize, rows: &mut [u64], base: usize, arcs: &[u64; 32]) -> u64
-    requires base_in_bounds { base + 64 ≤ length rows.old }
-    requires ruled { said.Ruled words.now p }
-    ensures { Joined rows.old 0 base (said.SpreadArc words.now p arcs.now (tables.length_at words.now p + 1)) rows.new result }
+fn join_symbols(rule: &Rule<'_>, rows: &mut [u64; ROWS], arcs: &[u64; 32]) -> u64
+    requires ruled { said.Ruled rule.now.words.now rule.now.at }
+    ensures { Joined rows.old 0 (said.SpreadArc rule.now.words.now rule.now.at arcs.now (tables.length_at rule.now.words.now rule.now.at + 1)) rows.new result }
 {
-    let n = access::right_length(words, p);
+    let n = rule.right_length();
     let mut starts = 0;
     for i in 0..n + 1 {
-        starts = join_symbol(words, p, i, rows, base, arcs, starts);
+        starts = join_symbol(rule, i, rows, arcs, starts);
     }
     starts
 }
 
 // Adds to a closed rule the arcs that its symbols have, and closes it again: only over the occurrences from which new arcs start.
-pub fn spread(words: &[u16], p: usize, rows: &mut [u64], base: usize, among: u64, arcs: &[u64; 32])
-    requires base_in_bounds { base + 64 ≤ length rows.old }
-    requires ruled { said.Ruled words.now p }
-    requires arcs_fit { said.ArcsFit words.now p among arcs.now }
-    requires kept { Kept rows.old base among }
-    ensures { Closes rows.old base among (said.SpreadArc words.now p arcs.now (tables.length_at words.now p + 1)) rows.new }
+pub fn spread(rule: &Rule<'_>, rows: &mut [u64; ROWS], among: u64, arcs: &[u64; 32])
+    requires ruled { said.Ruled rule.now.words.now rule.now.at }
+    requires arcs_fit { said.ArcsFit rule.now.words.now rule.now.at among arcs.now }
+    requires kept { Kept rows.old among }
+    ensures { Closes rows.old among (said.SpreadArc rule.now.words.now rule.now.at arcs.now (tables.length_at rule.now.words.now rule.now.at + 1)) rows.new }
 {
-    let starts = join_symbols(words, p, rows, base, arcs);
-    closing::close(rows, base, among, starts);
+    let starts = join_symbols(rule, rows, arcs);
+    closing::close(rows, among, starts);
 }
 
 // What a rule gets at first: DP, and the arcs that its symbols have so far.
-fn add_first(words: &[u16], p: usize, rows: &mut [u64], base: usize, arcs: &[u64; 32])
-    requires base_in_bounds { base + 64 ≤ length rows.old }
-    requires ruled { said.Ruled words.now p }
-    requires functions_small { said.FunctionsSmall words.now p }
-    ensures { Grown rows.old base (said.OpeningArc words.now p arcs.now) rows.new }
+fn add_first(rule: &Rule<'_>, rows: &mut [u64; ROWS], arcs: &[u64; 32])
+    requires ruled { said.Ruled rule.now.words.now rule.now.at }
+    requires functions_small { said.FunctionsSmall rule.now.words.now rule.now.at }
+    ensures { Grown rows.old (said.OpeningArc rule.now.words.now rule.now.at arcs.now) rows.new }
 {
-    dp::mark_rule(words, p, rows, base);
-    join_symbols(words, p, rows, base, arcs);
+    dp::mark_rule(rule, rows);
+    join_symbols(rule, rows, arcs);
 }
 
 // Adds them and closes the rule, once for both and as a whole.
-fn open(words: &[u16], p: usize, rows: &mut [u64], base: usize, among: u64, arcs: &[u64; 32])
-    requires base_in_bounds { base + 64 ≤ length rows.old }
-    requires ruled { said.Ruled words.now p }
-    requires functions_fit { said.FunctionsFit words.now p among }
-    requires arcs_fit { said.ArcsFit words.now p among arcs.now }
-    requires kept { Kept rows.old base among }
-    ensures { Closes rows.old base among (said.OpeningArc words.now p arcs.now) rows.new }
+fn open(rule: &Rule<'_>, rows: &mut [u64; ROWS], among: u64, arcs: &[u64; 32])
+    requires ruled { said.Ruled rule.now.words.now rule.now.at }
+    requires functions_fit { said.FunctionsFit rule.now.words.now rule.now.at among }
+    requires arcs_fit { said.ArcsFit rule.now.words.now rule.now.at among arcs.now }
+    requires kept { Kept rows.old among }
+    ensures { Closes rows.old among (said.OpeningArc rule.now.words.now rule.now.at arcs.now) rows.new }
 {
-    add_first(words, p, rows, base, arcs);
-    let middles = closing::inner(rows, base, among);
-    closing::close(rows, base, among, middles);
+    add_first(rule, rows, arcs);
+    let middles = closing::inner(rows, among);
+    closing::close(rows, among, middles);
 }
 
 // Steps 1 and 2: the rows get the paths of IDP, and the answer is IDS of every symbol.
@@ -153,6 +147,6 @@ pub fn induce(table: &Table<'_>, rows: &mut [u64]) -> [u64; 32]
     ensures value { result ≡ padded 32 (ids_of table.now.words.now) }
     ensures rows_after { rows.new ≡ over (rows_of table.now.words.now (idp_paths table.now.words.now (ids_of table.now.words.now))) rows.old }
 {
-    dp::clear(rows, ROWS * access::rules(table.words));
+    rows[..ROWS * access::rules(table.words)].fill(0);
     ids::induced(table, rows)
 }

@@ -3,11 +3,12 @@
 
 ghost use Rattle.std.specs.Prelude.{◌≡◌, ◌+◌, ◌*◌, ◌≤◌, ◌<◌, length};
 ghost use Rattle.grammar.specs.Limits as limits;
+ghost use Rattle.grammar.specs.Reading.{read_table};
+ghost use Rattle.grammar.specs.Verdicts.{Good};
 ghost use Rattle.grammar.specs.WellFormed.{SymbolFormed};
 ghost use Rattle.sets.specs.Computed.{sets_of};
 ghost use Rattle.placing.specs.SymbolSets as masks;
 
-use access::Table;
 use grammar::SET_WORDS;
 
 // All unplaced successors of attribute a are of the class.
@@ -91,10 +92,10 @@ fn place_nonterminal(words: &[u16], x: usize, arcs: u64, sets: &mut [u16])
 }
 
 // The set words of a plan, of a table that is accepted and its IDS.
-pub fn sets_of(table: &Table<'_>, ids: &[u64; 32]) -> [u16; SET_WORDS]
-    ensures { result ≡ sets_of table.now.words.now ids.now }
+pub fn sets_of(words: &[u16], ids: &[u64; 32]) -> [u16; SET_WORDS]
+    requires { read_table words.now ≡ Good }
+    ensures { result ≡ sets_of words.now ids.now }
 {
-    let words = table.words;
     let mut sets = [0u16; SET_WORDS];
     for x in 0..access::symbols(words) {
         place_nonterminal(words, x, ids[x], &mut sets);

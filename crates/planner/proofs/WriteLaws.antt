@@ -26,7 +26,9 @@ use Rattle.plans.specs.Buffers.{over, sequence_words, plan_of}
 use Rattle.plans.specs.Answer.{edp_paths, sequences_of, accepted_plan}
 use Rattle.plans.proofs.Answers.{no_idp_cycle_law, no_edp_cycle_law}
 use Rattle.access.specs.Offsets.{offsets_for}
-use Rattle.access.proofs.Accessors.{offset_is}
+use Rattle.access.specs.declared.Table.{Table}
+use Rattle.access.proofs.TableLaws.{rule_in}
+use Rattle.access.proofs.Accessors.{offset_is, rule_near}
 use Rattle.plans.proofs.RowWords.{over_size, over_row}
 use Rattle.remaining.specs.declared.ByVisit.{ByVisit as Kept}
 use Rattle.remaining.specs.RuleSets.{FewVisits, ByVisit}
@@ -120,6 +122,10 @@ by_symbols g good = (accepted g good).symbols_fit
 
 pub by_few : (g s rows : List ℕ) (n : ℕ) → OrderedStage g s rows n → FewVisits s
 by_few g s rows n w x = subst⁻¹ (λ (y : List ℕ). visits y x ≤ 5) w.sets_are (visits_five g (ids_of g) x)
+
+-- a rule of the table starts near
+pub plan_near : (t : Table) (r p n : ℕ) → n ≡ rules t.words.now → r < n → p ≡ get_or t.offsets r 0 → p < 65536
+plan_near t r p n m h e = rule_near t.words.now t.offsets r (rule_in t r (omega arith)) p e
 
 -- what the sequence of rule r asks for
 pub plan_given : (g offsets s : List ℕ) (by : Kept) (rows entry plan : List ℕ) (r p n : ℕ) → read_table g ≡ Good → offsets ≡ offsets_for g Good → PlanTo g s rows entry plan r → ByVisit g s by → n ≡ rules g → r < n

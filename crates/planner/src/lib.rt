@@ -8,7 +8,7 @@ ghost use Rattle.plans.specs.Answer as answer;
 ghost use Rattle.planner.specs.Answered as answered;
 ghost use Rattle.planner.specs.Stages as ready;
 
-use access::Table;
+use access::{Rule, Table};
 use grammar::{ROWS, RULE_WORDS, SET_WORDS};
 use refusals::Refusal;
 
@@ -36,7 +36,11 @@ fn write_plan(table: &Table<'_>, sets: &[u16; SET_WORDS], rows: &[u64], plan: &m
     let by = remaining::by_visit(words, sets);
     let count = access::rules(words);
     for r in 0..count {
-        sequencing::sequence(words, table.rule_at(r), r, &by, rows, plan);
+        let rule = Rule {
+            words,
+            at: table.rule_at(r),
+        };
+        sequencing::sequence(&rule, r, &by, rows, plan);
     }
 }
 
@@ -51,7 +55,7 @@ fn plan_noncircular(
     ensures { ready.Came table.now.words.now (ready.after_nine table.now.words.now) rows.old plan.old result rows.new plan.new }
 {
     let rules = access::rules(table.words);
-    let sets = placing::sets_of(table, ids);
+    let sets = placing::sets_of(table.words, ids);
     extending::extend(table, &sets, rows);
     let edp_cycle = inducing::find_cycle(rows, rules);
     if let Some((r, o)) = edp_cycle {

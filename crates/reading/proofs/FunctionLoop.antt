@@ -20,7 +20,7 @@ use Rattle.grammar.proofs.AcceptedSymbols.{ranged_there}
 use Rattle.grammar.proofs.VerdictLaws.{handed_out, then_first, then_second, unless_passes}
 use Rattle.access.specs.ByPlace.{next_function, function_from, undefined_after, functions_from}
 use Rattle.access.proofs.Laws.{each_none, each_more, each_stop, each_end, member_past}
-use Rattle.reading.specs.declared.functions.Rule.{Rule}
+use Rattle.reading.specs.declared.functions.RuleEnd.{RuleEnd}
 use Rattle.reading.specs.Parts.{FunctionRead, FunctionsPass, FunctionsRead}
 
 -- the operation of a function that passes is there
@@ -77,7 +77,7 @@ module _ (g : List ℕ) (p occurrences defining n : ℕ) where
         }
 
     module _ (q : n ≡ functions_at g p) where
-      pub stop : (r : Result Rule Refusal) (m : Refusal) → k < n → FunctionRead g f occurrences undefined (Err m) → IsErrAnd r (λ e. e ≡ m)
+      pub stop : (r : Result RuleEnd Refusal) (m : Refusal) → k < n → FunctionRead g f occurrences undefined (Err m) → IsErrAnd r (λ e. e ≡ m)
           → FunctionsRead g p occurrences defining r
       unfolding functions_from
       stop r m h e d =

@@ -17,7 +17,7 @@ use Rattle.grammar.proofs.AcceptedSymbols.{ranged_passes}
 use Rattle.grammar.proofs.RuleStarts.{functions_bound}
 use Rattle.access.specs.ByPlace.{symbol_from, occurrences_at, definings_at, Shaped, Symbols, left_from, symbol_test, undefined_after, functions_from, body_from, rule_from}
 use Rattle.access.proofs.Laws.{stops, passes}
-use Rattle.reading.specs.declared.functions.Rule.{Rule}
+use Rattle.reading.specs.declared.functions.RuleEnd.{RuleEnd}
 use Rattle.reading.specs.Parts.{shape_fault, FunctionsRead, RuleRead}
 use Rattle.reading.proofs.ChainLaws.{then_group}
 
@@ -28,7 +28,7 @@ left_symbol_law g p v e h =
     ltb→lt (word g p) (symbols g) (ranged_passes g p (ltb (word g p) (symbols g)) (then_first _ _ (sym e ∙ h)))
 
 -- a rule is refused where one of its tests is
-stopped : (g : List ℕ) (p : ℕ) (tests : Verdict) (r : Result Rule Refusal) (m : Refusal) → tests ≡ Refused m → IsErrAnd r (λ e. e ≡ m)
+stopped : (g : List ℕ) (p : ℕ) (tests : Verdict) (r : Result RuleEnd Refusal) (m : Refusal) → tests ≡ Refused m → IsErrAnd r (λ e. e ≡ m)
     → RuleRead g p tests r
 stopped g p tests r m e d = subst⁻¹ (RuleRead g p tests) (handed_out r m d) e
 
@@ -39,7 +39,7 @@ module _ (g : List ℕ) (p : ℕ) (u : Verdict) (d : u ≡ shape_fault g p) wher
   unfolding body_from shape_fault
   cut = then_group _ _ _ _
 
-  pub shape_stops : (r : Result Rule Refusal) (m : Refusal) → u ≡ Refused m → IsErrAnd r (λ e. e ≡ m) → RuleRead g p (body_from g p) r
+  pub shape_stops : (r : Result RuleEnd Refusal) (m : Refusal) → u ≡ Refused m → IsErrAnd r (λ e. e ≡ m) → RuleRead g p (body_from g p) r
   shape_stops r m h i = stopped g p (body_from g p) r m (sym (stops _ _ u m d h ∙ sym cut) ∙ h) i
 
   module _ (h : u ≡ Good) where
@@ -63,7 +63,7 @@ module _ (g : List ℕ) (p : ℕ) (u : Verdict) (d : u ≡ shape_fault g p) wher
             (ranged_passes g (p + 2 + i) (ltb (word g (p + 2 + i)) (symbols g))
             (each_at (length_at g p) (λ i. symbol_test g (p + 2 + i)) (then_first _ _ (then_second _ _ (sym d ∙ h))) i (omega arith))))
 
-    pub functions_answer : (occurrences defining : ℕ) (r : Result Rule Refusal) → occurrences ≡ occurrences_at g p
+    pub functions_answer : (occurrences defining : ℕ) (r : Result RuleEnd Refusal) → occurrences ≡ occurrences_at g p
         → defining ≡ definings_at g p → FunctionsRead g p occurrences defining r → RuleRead g p (body_from g p) r
     functions_answer occurrences defining (Ok rule) a b read =
         record {
@@ -78,16 +78,16 @@ module _ (g : List ℕ) (p : ℕ) (u : Verdict) (d : u ≡ shape_fault g p) wher
 -- ---- the rule: its left symbol, the rule before it, then its body
 
 module _ (g : List ℕ) (p undefined : ℕ) (u : Verdict) (d : u ≡ left_from g p) where
-  pub left_stops : (r : Result Rule Refusal) (m : Refusal) → u ≡ Refused m → IsErrAnd r (λ e. e ≡ m) → RuleRead g p (rule_from g p undefined) r
+  pub left_stops : (r : Result RuleEnd Refusal) (m : Refusal) → u ≡ Refused m → IsErrAnd r (λ e. e ≡ m) → RuleRead g p (rule_from g p undefined) r
   unfolding rule_from
   left_stops r m h i = stopped g p (rule_from g p undefined) r m (sym (stops _ _ u m d h) ∙ h) i
 
   module _ (v : Verdict) (h : u ≡ Good) (e : v ≡ unless (eqb undefined 0) (Undefined p)) where
-    pub before_stops : (r : Result Rule Refusal) (m : Refusal) → v ≡ Refused m → IsErrAnd r (λ e. e ≡ m) → RuleRead g p (rule_from g p undefined) r
+    pub before_stops : (r : Result RuleEnd Refusal) (m : Refusal) → v ≡ Refused m → IsErrAnd r (λ e. e ≡ m) → RuleRead g p (rule_from g p undefined) r
     unfolding rule_from
     before_stops r m l i = stopped g p (rule_from g p undefined) r m (sym (passes _ _ u v d h (stops _ _ v m e l)) ∙ l) i
 
-    pub body_answers : (r : Result Rule Refusal) → v ≡ Good → RuleRead g p (body_from g p) r → RuleRead g p (rule_from g p undefined) r
+    pub body_answers : (r : Result RuleEnd Refusal) → v ≡ Good → RuleRead g p (body_from g p) r → RuleRead g p (rule_from g p undefined) r
     unfolding rule_from
     body_answers (Ok rule) l read =
         record {

@@ -23,7 +23,7 @@ use Rattle.access.specs.Offsets.{offsets_for}
 use Rattle.access.specs.ByPlace.{Symbols, rule_from, next_rule, leaves}
 use Rattle.access.proofs.Laws.{stops, passes, each_none, each_more, each_stop, each_end}
 use Rattle.access.proofs.Same.{complete_same, rule_same}
-use Rattle.reading.specs.declared.functions.Rule.{Rule}
+use Rattle.reading.specs.declared.functions.RuleEnd.{RuleEnd}
 use Rattle.reading.specs.Parts.{opening_fault, ending_fault, RulePasses, RuleRead, RulesRead, TableRead}
 use Rattle.reading.proofs.ChainLaws.{then_group}
 
@@ -85,7 +85,7 @@ module _ (g offsets : List ℕ) (n p undefined r : ℕ) (at : AtRule g offsets n
   test : (v : Verdict) → v ≡ rule_from g p undefined → v ≡ rule_fault g r
   test v e = e ∙ rule_same g r p undefined at.place at.before
 
-  pub turn : (rule : Rule) → r < n → RulePasses g p (rule_from g p undefined) rule → AtRule g (set offsets r p) n rule.next rule.undefined (r + 1)
+  pub turn : (rule : RuleEnd) → r < n → RulePasses g p (rule_from g p undefined) rule → AtRule g (set offsets r p) n rule.next rule.undefined (r + 1)
   unfolding rule_at rule_before
   turn rule h read =
       let moved : rule.next ≡ rule_at g (suc r) = read.goes ∙ ap (next_rule g) at.place in

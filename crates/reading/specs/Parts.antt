@@ -13,7 +13,7 @@ use Rattle.grammar.specs.Reading.{ranged, header, symbol_fault, start_class, rea
 use Rattle.access.specs.declared.Table.{Table}
 use Rattle.access.specs.Offsets.{offsets_for}
 use Rattle.access.specs.ByPlace.{symbol_test, arguments_from, function_from, functions_from, undefined_after, next_rule, leaves}
-use Rattle.reading.specs.declared.functions.Rule.{Rule}
+use Rattle.reading.specs.declared.functions.RuleEnd.{RuleEnd}
 
 -- the mask of symbol x, and its class
 unfoldable pub mask_fault : List ℕ → ℕ → Verdict
@@ -68,23 +68,23 @@ FunctionRead g f occurrences undefined (Err m) = function_from g f occurrences u
 
 -- What reading the functions of the rule at word p hands on where they pass: where the next rule starts, and the defining occurrences without a
 -- function.
-pub record FunctionsPass (g : List ℕ) (p occurrences defining : ℕ) (rule : Rule) : Type 0 where
+pub record FunctionsPass (g : List ℕ) (p occurrences defining : ℕ) (rule : RuleEnd) : Type 0 where
   pub passes : functions_from g p occurrences defining ≡ Good
   pub goes : rule.next ≡ next_rule g p
   pub left : rule.undefined ≡ undefined_after g p (functions_at g p) defining
 
-abbrev pub FunctionsRead : List ℕ → ℕ → ℕ → ℕ → Result Rule Refusal → Type 0
+abbrev pub FunctionsRead : List ℕ → ℕ → ℕ → ℕ → Result RuleEnd Refusal → Type 0
 FunctionsRead g p occurrences defining (Ok rule) = FunctionsPass g p occurrences defining rule
 FunctionsRead g p occurrences defining (Err m) = functions_from g p occurrences defining ≡ Refused m
 
 -- the same of the rule at word p, or of a part of it that ends with its functions, by the tests of it; the next rule is not far
-pub record RulePasses (g : List ℕ) (p : ℕ) (tests : Verdict) (rule : Rule) : Type 0 where
+pub record RulePasses (g : List ℕ) (p : ℕ) (tests : Verdict) (rule : RuleEnd) : Type 0 where
   pub passes : tests ≡ Good
   pub goes : rule.next ≡ next_rule g p
   pub left : rule.undefined ≡ leaves g p
   pub near : rule.next ≤ p + 394
 
-abbrev pub RuleRead : List ℕ → ℕ → Verdict → Result Rule Refusal → Type 0
+abbrev pub RuleRead : List ℕ → ℕ → Verdict → Result RuleEnd Refusal → Type 0
 RuleRead g p tests (Ok rule) = RulePasses g p tests rule
 RuleRead g p tests (Err m) = tests ≡ Refused m
 

@@ -8,6 +8,7 @@ ghost use Rattle.access.specs.ByPlace as places;
 ghost use Rattle.reading.specs.Parts as steps;
 
 use super::words::{member, present, ranged, unless};
+use access::Rule;
 use refusals::Refusal;
 
 // Whether four words are all occurrences: each is below 64, and the set of them has nothing that the occurrences lack.
@@ -37,18 +38,27 @@ fn operand_words(words: &[u16], f: usize, occurrences: u64) -> Option<usize>
     requires { f + 6 ≤ length words.now }
     ensures { result ≡ steps.words_if (steps.operands_fault words.now f occurrences) (steps.function_words words.now f) }
 {
+    let op = access::known(words, f + 1);
     let a = access::known(words, f + 2);
     let b = access::known(words, f + 3);
     let c = access::known(words, f + 4);
     let d = access::known(words, f + 5);
-    match access::known(words, f + 1) {
-        0 => Some(3),
-        1 => four_occur(occurrences, a, a, a, a).then_some(3),
-        2..=6 => four_occur(occurrences, a, b, a, b).then_some(4),
-        7 => four_occur(occurrences, a, b, c, c).then_some(5),
-        8 => four_occur(occurrences, a, b, c, d).then_some(6),
-        _ => None,
+    if op == 8 {
+        return four_occur(occurrences, a, b, c, d).then_some(6);
     }
+    if op == 7 {
+        return four_occur(occurrences, a, b, c, c).then_some(5);
+    }
+    if op > 8 {
+        return None;
+    }
+    if op >= 2 {
+        return four_occur(occurrences, a, b, a, b).then_some(4);
+    }
+    if op == 1 {
+        return four_occur(occurrences, a, a, a, a).then_some(3);
+    }
+    Some(3)
 }
 
 // Whether a target is an occurrence that a function may define.
@@ -148,29 +158,24 @@ fn function_size(
 
 // What reading a rule hands on: where the next one starts, and the defining occurrences that got no function.
 #[derive(Clone, Copy)]
-pub struct Rule {
+pub struct RuleEnd {
     pub next: usize,
     pub undefined: u64,
 }
 
-// The functions of the rule at word p.
-pub fn read_functions(
-    words: &[u16],
-    p: usize,
-    occurrences: u64,
-    defining: u64,
-) -> Result<Rule, Refusal>
-    requires p_bound { p < 65536 }
-    requires few { table.functions_at words.now p ≤ 64 }
-    ensures { steps.FunctionsRead words.now p occurrences defining result }
+// The functions of a rule.
+pub fn read_functions(rule: &Rule<'_>, occurrences: u64, defining: u64) -> Result<RuleEnd, Refusal>
+    requires { table.functions_at rule.now.words.now rule.now.at ≤ 64 }
+    ensures { steps.FunctionsRead rule.now.words.now rule.now.at occurrences defining result }
 {
-    let count = access::function_count(words, p);
-    let mut f = access::first_function(words, p);
+    let words = rule.words;
+    let count = rule.function_count();
+    let mut f = rule.first_function();
     let mut undefined = defining;
     for _ in 0..count {
         let size = function_size(words, f, occurrences, undefined)?;
         undefined = bits::without(undefined, access::known(words, f));
         f += size;
     }
-    Ok(Rule { next: f, undefined })
+    Ok(RuleEnd { next: f, undefined })
 }

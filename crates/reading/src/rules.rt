@@ -7,8 +7,9 @@ ghost use Rattle.grammar.specs.Verdicts.{unless};
 ghost use Rattle.access.specs.ByPlace as places;
 ghost use Rattle.reading.specs.Parts as steps;
 
-use super::functions::{Rule, read_functions};
+use super::functions::{RuleEnd, read_functions};
 use super::words::{ranged, unless};
+use access::Rule;
 use refusals::Refusal;
 
 // The left symbol of the rule at word p.
@@ -33,28 +34,26 @@ fn right_fault(words: &[u16], p: usize, n: usize) -> Result<(), Refusal>
     Ok(())
 }
 
-// The right side of the rule at word p, and the number of its functions.
-fn shape_fault(words: &[u16], p: usize) -> Result<(), Refusal>
-    requires { p < 65536 }
-    ensures { result ≡ steps.shape_fault words.now p }
+// The right side of a rule, and the number of its functions.
+fn shape_fault(rule: &Rule<'_>) -> Result<(), Refusal>
+    ensures { result ≡ steps.shape_fault rule.now.words.now rule.now.at }
 {
-    let n = access::right_length(words, p);
+    let words = rule.words;
+    let p = rule.at;
+    let n = rule.right_length();
     ranged(words, p + 1, n <= 7)?;
     right_fault(words, p + 2, n)?;
-    ranged(words, p + 2 + n, access::function_count(words, p) <= 64)
+    ranged(words, p + 2 + n, rule.function_count() <= 64)
 }
 
-// What follows the left symbol of the rule at word p. Once its symbols are known to be well formed, its sets can be made.
-fn read_body(words: &[u16], p: usize) -> Result<Rule, Refusal>
-    requires p_bound { p < 65536 }
-    requires symbols { places.Symbols words.now }
-    requires left_small { word words.now p < table.symbols words.now }
-    ensures { steps.RuleRead words.now p (places.body_from words.now p) result }
+// What follows the left symbol of a rule. Once its symbols are known to be well formed, its sets can be made.
+fn read_body(rule: &Rule<'_>) -> Result<RuleEnd, Refusal>
+    requires symbols { places.Symbols rule.now.words.now }
+    requires left_small { word rule.now.words.now rule.now.at < table.symbols rule.now.words.now }
+    ensures { steps.RuleRead rule.now.words.now rule.now.at (places.body_from rule.now.words.now rule.now.at) result }
 {
-    shape_fault(words, p)?;
-    let occurrences = access::occurrence_set(words, p);
-    let defining = access::defining_set(words, p);
-    read_functions(words, p, occurrences, defining)
+    shape_fault(rule)?;
+    read_functions(rule, rule.occurrences(), rule.definings())
 }
 
 // 6: the rule before the one at word p left no defining occurrence without a function.
@@ -65,14 +64,14 @@ fn rule_before(undefined: u64, p: usize) -> Result<(), Refusal>
 }
 
 // The rule at word p. At its first word its own faults go before 6 of the rule before.
-pub fn read_rule(words: &[u16], p: usize, undefined: u64) -> Result<Rule, Refusal>
+pub fn read_rule(words: &[u16], p: usize, undefined: u64) -> Result<RuleEnd, Refusal>
     requires p_bound { p < 65536 }
     requires symbols { places.Symbols words.now }
     ensures { steps.RuleRead words.now p (places.rule_from words.now p undefined) result }
 {
     left_fault(words, p)?;
     rule_before(undefined, p)?;
-    read_body(words, p)
+    read_body(&Rule { words, at: p })
 }
 
 // The end of the rules, at word p: 6 where the last one is not complete, 7 where words are left over.

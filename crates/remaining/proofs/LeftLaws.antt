@@ -15,6 +15,7 @@ use Rattle.access.specs.ByPlace.{symbol_from, definings_at}
 use Rattle.remaining.specs.Remaining.{Done}
 use Rattle.remaining.specs.declared.ByVisit.{ByVisit as Kept}
 use Rattle.remaining.specs.RuleSets.{
+  of_visit,
   inherited_mask,
   synthesized_mask,
   visits_in,
@@ -89,13 +90,9 @@ leave_answer g by p b x down c v l l' w r d e f q k =
     }
 
 -- the eight places of a visit in a symbol's word
-pub inherited_by : (by : Kept) (x n r : ℕ) → r ≡ field (8 * n) (get_or by.inherited x 0) → r ≡ inherited_mask by x n
-unfolding inherited_mask
-inherited_by by x n r e = e
-
-pub synthesized_by : (by : Kept) (x n r : ℕ) → r ≡ field (8 * n) (get_or by.synthesized x 0) → r ≡ synthesized_mask by x n
-unfolding synthesized_mask
-synthesized_by by x n r e = e
+pub visit_by : (kept : List ℕ) (x n v : ℕ) → v ≡ field (8 * n) (get_or kept x 0) → v ≡ of_visit kept x n
+unfolding of_visit
+visit_by kept x n v e = e
 
 pub visits_by_table : (by : Kept) (x r : ℕ) → r ≡ get_or by.visits x 0 → r ≡ visits_in by x
 unfolding visits_in

@@ -19,6 +19,7 @@ use Rattle.sets.specs.Visits.{set_number, half_up, visits}
 use Rattle.access.specs.ByPlace.{symbol_from}
 use Rattle.remaining.specs.declared.ByVisit.{ByVisit as Kept}
 use Rattle.remaining.specs.RuleSets.{
+  of_visit,
   part_by_visit,
   ByVisit,
   inherited_mask,
@@ -63,23 +64,23 @@ module _ (s : List ℕ) (x odd word n : ℕ) (is : word ≡ part_by_visit s x od
 -- an attribute is a member exactly where it is in the set of the visit
 module _ (s : List ℕ) (by : Kept) (x n : ℕ) (seen : Seen s by x) (l : n < 8) where
   pub in_inherited : n ≤ visits s x → (a : ℕ) → T (hasb a (inherited_mask by x n)) → (a < 8) × (set_number s x a ≡ 2 * (visits s x + 1 - (n + 1)))
-  unfolding inherited_mask
+  unfolding of_visit
   in_inherited h a t =
       let k = in_part s x 0 (word by.inherited x) n seen.even l a t in
       (k.0, omega (arith, k.1, k.2, set_within s x a k.0))
 
   pub inherited_in : n ≤ visits s x → (a : ℕ) → a < 8 → set_number s x a ≡ 2 * (visits s x + 1 - (n + 1)) → T (hasb a (inherited_mask by x n))
-  unfolding inherited_mask
+  unfolding of_visit
   inherited_in h a k e = part_in s x 0 (word by.inherited x) n seen.even l a k (omega (arith, e)) (omega (arith, e))
 
   pub in_synthesized : n < visits s x → (a : ℕ) → T (hasb a (synthesized_mask by x n)) → (a < 8) × (set_number s x a ≡ 2 * (visits s x + 1 - (n + 1)) - 1)
-  unfolding synthesized_mask
+  unfolding of_visit
   in_synthesized h a t =
       let k = in_part s x 1 (word by.synthesized x) n seen.odd l a t in
       (k.0, omega (arith, k.1, k.2, set_within s x a k.0))
 
   pub synthesized_in : n < visits s x → (a : ℕ) → a < 8 → set_number s x a ≡ 2 * (visits s x + 1 - (n + 1)) - 1 → T (hasb a (synthesized_mask by x n))
-  unfolding synthesized_mask
+  unfolding of_visit
   synthesized_in h a k e = part_in s x 1 (word by.synthesized x) n seen.odd l a k (omega (arith, e)) (omega (arith, e))
 
 -- a set of attributes at position i
@@ -101,7 +102,7 @@ at_raised mask i o q t =
 -- those of the first visit are the lowest eight bits
 pub first_inherited : (by : Kept) (x a : ℕ) → a < 8
     → (T (hasb a (inherited_mask by x 0)) → T (hasb a (word by.inherited x))) × (T (hasb a (word by.inherited x)) → T (hasb a (inherited_mask by x 0)))
-unfolding inherited_mask
+unfolding of_visit
 first_inherited by x a h =
     let none : 8 * 0 + a ≡ a = omega arith in
     let e : hasb a (field (8 * 0) (word by.inherited x)) ≡ hasb a (word by.inherited x) =
@@ -109,11 +110,11 @@ first_inherited by x a h =
     (λ t. subst (λ (b : Bool). T b) e t, λ t. subst⁻¹ (λ (b : Bool). T b) e t)
 
 pub inherited_small : (by : Kept) (x n mask : ℕ) → mask ≡ inherited_mask by x n → mask < 256
-unfolding inherited_mask
+unfolding of_visit
 inherited_small by x n mask e = subst⁻¹ (λ (y : ℕ). y < 256) e (field_lt (8 * n) (word by.inherited x))
 
 pub synthesized_small : (by : Kept) (x n mask : ℕ) → mask ≡ synthesized_mask by x n → mask < 256
-unfolding synthesized_mask
+unfolding of_visit
 synthesized_small by x n mask e = subst⁻¹ (λ (y : ℕ). y < 256) e (field_lt (8 * n) (word by.synthesized x))
 
 -- the table has the symbol of each of these visits, and it has so many

@@ -33,12 +33,16 @@ pub record ByVisit (g s : List ℕ) (by : Kept) : Type 0 where
   pub odd : (x : ℕ) → x < symbols g → word by.synthesized x ≡ part_by_visit s x 1
   pub calls : (x : ℕ) → x < symbols g → word by.visits x ≡ symbol_visits g x (visits s x)
 
--- in such a table the inherited attributes of a visit of symbol x, counted from 0, the synthesized ones, and all its visits
-unfoldable pub inherited_mask : Kept → ℕ → ℕ → ℕ
-inherited_mask by x n = field (8 * n) (word by.inherited x)
+-- what is kept of symbol x for a visit, counted from 0
+unfoldable pub of_visit : List ℕ → ℕ → ℕ → ℕ
+of_visit kept x n = field (8 * n) (word kept x)
 
-unfoldable pub synthesized_mask : Kept → ℕ → ℕ → ℕ
-synthesized_mask by x n = field (8 * n) (word by.synthesized x)
+-- in such a table the inherited attributes of a visit of symbol x, the synthesized ones, and all its visits
+abbrev pub inherited_mask : Kept → ℕ → ℕ → ℕ
+inherited_mask by x n = of_visit by.inherited x n
+
+abbrev pub synthesized_mask : Kept → ℕ → ℕ → ℕ
+synthesized_mask by x n = of_visit by.synthesized x n
 
 unfoldable pub visits_in : Kept → ℕ → ℕ
 visits_in by x = word by.visits x

@@ -11,6 +11,8 @@ ghost use Rattle.sets.specs.Visits as visiting;
 ghost use Rattle.remaining.specs.RuleSets as masks;
 ghost use Rattle.remaining.specs.Remaining as spec;
 
+use access::Rule;
+
 // What is kept of each symbol x by visit: its inherited attributes, those of visit n from bit 8 (n - 1) on, its synthesized ones in the same way,
 // and its visits.
 #[derive(Clone, Copy)]
@@ -129,20 +131,12 @@ pub fn by_visit(words: &[u16], sets: &[u16]) -> ByVisit
     by
 }
 
-// The inherited attributes of a visit of symbol x, counted from 0, which it takes along.
-fn inherited_of(by: &ByVisit, x: usize, n: usize) -> u64
+// What is kept of symbol x for a visit, counted from 0: the inherited attributes that it takes along, or the synthesized ones that it makes available.
+fn of_visit(kept: &[u64; 32], x: usize, n: usize) -> u64
     requires { (x < limits.most_symbols) × (n < 8) }
-    ensures { result ≡ masks.inherited_mask by.now x n }
+    ensures { result ≡ masks.of_visit kept.now x n }
 {
-    bits::field(by.inherited[x], 8 * n)
-}
-
-// The synthesized ones, which it makes available.
-fn synthesized_of(by: &ByVisit, x: usize, n: usize) -> u64
-    requires { (x < limits.most_symbols) × (n < 8) }
-    ensures { result ≡ masks.synthesized_mask by.now x n }
-{
-    bits::field(by.synthesized[x], 8 * n)
+    bits::field(kept[x], 8 * n)
 }
 
 // Its visits, counted from 0; a terminal has none.
@@ -153,18 +147,17 @@ fn visits_in(by: &ByVisit, x: usize) -> u64
     by.visits[x]
 }
 
-// The lowest eight bits of the words that are kept of the children of the rule at word p: of their visits all, of their inherited attributes what
+// The lowest eight bits of the words that are kept of the children of a rule: of their visits all, of their inherited attributes what
 // their first visits take along.
-fn of_children(words: &[u16], p: usize, kept: &[u64; 32]) -> u64
-    requires p_bound { p < 65536 }
-    requires shaped { places.Shaped words.now p }
-    requires tabled { masks.Tabled words.now p }
-    ensures { result ≡ masks.children_in words.now kept.now p }
+fn of_children(rule: &Rule<'_>, kept: &[u64; 32]) -> u64
+    requires shaped { places.Shaped rule.now.words.now rule.now.at }
+    requires tabled { masks.Tabled rule.now.words.now rule.now.at }
+    ensures { result ≡ masks.children_in rule.now.words.now kept.now rule.now.at }
 {
-    let n = access::right_length(words, p);
+    let n = rule.right_length();
     let mut found = 0;
     for i in 0..n {
-        let child = bits::field(kept[access::symbol_of(words, p, i + 1)], 0);
+        let child = bits::field(kept[rule.symbol(i + 1)], 0);
         found = bits::union(bits::raised(child, 8 * (i + 1)), found);
     }
     found
@@ -182,16 +175,15 @@ fn made_attributes(words: &[u16], x: usize) -> u64
     0
 }
 
-// The occurrences of nonterminals in the rule at word p.
-fn made_occurrences(words: &[u16], p: usize) -> u64
-    requires p_bound { p < 65536 }
-    requires shaped { places.Shaped words.now p }
-    ensures { result ≡ masks.occurrences_from words.now p }
+// The occurrences of nonterminals in a rule.
+fn made_occurrences(rule: &Rule<'_>) -> u64
+    requires shaped { places.Shaped rule.now.words.now rule.now.at }
+    ensures { result ≡ masks.occurrences_from rule.now.words.now rule.now.at }
 {
-    let n = access::right_length(words, p);
+    let n = rule.right_length();
     let mut made = 0;
     for i in 0..n + 1 {
-        let there = made_attributes(words, access::symbol_of(words, p, i));
+        let there = made_attributes(rule.words, rule.symbol(i));
         made = bits::union(bits::raised(there, 8 * i), made);
     }
     made
@@ -206,19 +198,18 @@ fn one_up(set: u64) -> u64
 
 impl State {
     // Before the first action. The left side's inherited attributes of visit 1 are available from the start.
-    pub fn start(words: &[u16], p: usize, by: &ByVisit) -> State
-        requires p_bound { p < 65536 }
-        requires shaped { places.Shaped words.now p }
-        requires tabled { masks.Tabled words.now p }
-        ensures { masks.Started words.now by.now p result.computes result.visits result.leaves result.waiting result.wanted }
+    pub fn start(rule: &Rule<'_>, by: &ByVisit) -> State
+        requires shaped { places.Shaped rule.now.words.now rule.now.at }
+        requires tabled { masks.Tabled rule.now.words.now rule.now.at }
+        ensures { masks.Started rule.now.words.now by.now rule.now.at result.computes result.visits result.leaves result.waiting result.wanted }
     {
-        let left = access::symbol_of(words, p, 0);
+        let left = rule.symbol(0);
         State {
-            computes: access::defining_set(words, p),
-            visits: of_children(words, p, &by.visits),
+            computes: rule.definings(),
+            visits: of_children(rule, &by.visits),
             leaves: visits_in(by, left),
-            waiting: bits::minus(made_occurrences(words, p), inherited_of(by, left, 0)),
-            wanted: of_children(words, p, &by.inherited),
+            waiting: bits::minus(made_occurrences(rule), of_visit(&by.inherited, left, 0)),
+            wanted: of_children(rule, &by.inherited),
         }
     }
 
@@ -239,10 +230,10 @@ impl State {
     }
 
     // The leaves that are ready. Only the next one can be: the last one where nothing else is left, another where nothing that it hands up waits.
-    pub fn ready_leaves(self, words: &[u16], p: usize, by: &ByVisit) -> u64
-        requires p_bound { (p < 65536) × (places.symbol_from words.now p 0 < limits.most_symbols) }
+    pub fn ready_leaves(self, rule: &Rule<'_>, by: &ByVisit) -> u64
+        requires left_small { places.symbol_from rule.now.words.now rule.now.at 0 < limits.most_symbols }
         requires few_leaves { masks.FewLeaves self.leaves }
-        ensures { result ≡ masks.ready_leaves words.now by.now p self.computes self.visits self.leaves self.waiting }
+        ensures { result ≡ masks.ready_leaves rule.now.words.now by.now rule.now.at self.computes self.visits self.leaves self.waiting }
     {
         if self.leaves == 0 {
             return 0;
@@ -251,7 +242,7 @@ impl State {
         if bits::rest(self.leaves) == 0 {
             return bits::put(0, b, bits::union(self.computes, self.visits) == 0);
         }
-        let up = synthesized_of(by, access::symbol_of(words, p, 0), b);
+        let up = of_visit(&by.synthesized, rule.symbol(0), b);
         bits::put(0, b, bits::common(up, self.waiting) == 0)
     }
 
@@ -274,15 +265,15 @@ impl State {
 
     // Visit b of a child: its synthesized attributes of that visit are available then, and its next visit takes along those inherited ones that
     // belong to it.
-    pub fn visit(self, words: &[u16], p: usize, by: &ByVisit, b: usize) -> Step
-        requires p_bound { (p < 65536) × ((b < 64) × (b % 8 < 7)) }
-        requires symbol_small { places.symbol_from words.now p (b / 8) < limits.most_symbols }
-        ensures { spec.Done (spec.number result.action) result.state.computes result.state.visits result.state.leaves result.state.waiting result.state.wanted (64 + b) self.computes (bit.remove b self.visits) self.leaves (bit.minus self.waiting (masks.handed_up words.now by.now p b)) (masks.wanted_next words.now by.now p b self.wanted) }
+    pub fn visit(self, rule: &Rule<'_>, by: &ByVisit, b: usize) -> Step
+        requires b_bound { (b < 64) × (b % 8 < 7) }
+        requires symbol_small { places.symbol_from rule.now.words.now rule.now.at (b / 8) < limits.most_symbols }
+        ensures { spec.Done (spec.number result.action) result.state.computes result.state.visits result.state.leaves result.state.waiting result.state.wanted (64 + b) self.computes (bit.remove b self.visits) self.leaves (bit.minus self.waiting (masks.handed_up rule.now.words.now by.now rule.now.at b)) (masks.wanted_next rule.now.words.now by.now rule.now.at b self.wanted) }
     {
         let i = b / 8;
-        let x = access::symbol_of(words, p, i);
-        let up = synthesized_of(by, x, b % 8);
-        let down = inherited_of(by, x, b % 8 + 1);
+        let x = rule.symbol(i);
+        let up = of_visit(&by.synthesized, x, b % 8);
+        let down = of_visit(&by.inherited, x, b % 8 + 1);
         let others = bits::minus(self.wanted, bits::raised(255, 8 * i));
         Step {
             action: Action::Visit(b),
@@ -297,12 +288,12 @@ impl State {
     }
 
     // Leave b to the parent: the left side's inherited attributes of the next visit are available then.
-    pub fn leave(self, words: &[u16], p: usize, by: &ByVisit, b: usize) -> Step
-        requires p_bound { (p < 65536) × (b < 7) }
-        requires left_small { places.symbol_from words.now p 0 < limits.most_symbols }
-        ensures { spec.Done (spec.number result.action) result.state.computes result.state.visits result.state.leaves result.state.waiting result.state.wanted (128 + b) self.computes self.visits (bit.remove b self.leaves) (bit.minus self.waiting (masks.handed_down words.now by.now p b)) self.wanted }
+    pub fn leave(self, rule: &Rule<'_>, by: &ByVisit, b: usize) -> Step
+        requires b_bound { b < 7 }
+        requires left_small { places.symbol_from rule.now.words.now rule.now.at 0 < limits.most_symbols }
+        ensures { spec.Done (spec.number result.action) result.state.computes result.state.visits result.state.leaves result.state.waiting result.state.wanted (128 + b) self.computes self.visits (bit.remove b self.leaves) (bit.minus self.waiting (masks.handed_down rule.now.words.now by.now rule.now.at b)) self.wanted }
     {
-        let down = inherited_of(by, access::symbol_of(words, p, 0), b + 1);
+        let down = of_visit(&by.inherited, rule.symbol(0), b + 1);
         Step {
             action: Action::Leave(b),
             state: State {

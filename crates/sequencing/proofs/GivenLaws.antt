@@ -103,9 +103,6 @@ module _ (g s : List ℕ) (by : Kept) (rows : List ℕ) (p r : ℕ) (given : Rul
 
 -- The same as the code meets it.
 module _ (g s : List ℕ) (by : Kept) (rows : List ℕ) (p r : ℕ) where
-  pub place_small : RuleGiven g s by rows p r → p < 65536
-  place_small given = omega (arith, given.starts, rule_fits g r given.good (omega (arith, given.counts)))
-
   pub left_low : RuleGiven g s by rows p r → symbol_from g p 0 < most_symbols
   left_low given = symbol_low g s by rows p r given 0 (omega arith)
 

@@ -15,6 +15,7 @@ ghost use Rattle.sequencing.specs.Given as given;
 ghost use Rattle.sequencing.specs.Blocked as blocking;
 ghost use Rattle.sequencing.specs.Going as going;
 
+use access::Rule;
 use grammar::{ROWS, RULE_WORDS, SET_WORDS};
 use remaining::{ByVisit, State, Step};
 
@@ -66,22 +67,14 @@ fn compute_first(rows: &[u64], base: usize, ready: u64, state: State) -> Turn
 }
 
 // The lowest action that is ready. Computes come before visits, visits before leaves; an ordered rule always has one that is ready.
-fn next(
-    words: &[u16],
-    p: usize,
-    r: usize,
-    by: &ByVisit,
-    rows: &[u64],
-    ready: u64,
-    state: State,
-) -> Turn
-    requires rule_given { given.RuleGiven words.now (given.set_words words.now) by.now rows.now p r }
-    requires going { going.Going words.now (ids_of words.now) (given.set_words words.now) r (spec.remains state.computes state.visits state.leaves) state.waiting }
+fn next(rule: &Rule<'_>, r: usize, by: &ByVisit, rows: &[u64], ready: u64, state: State) -> Turn
+    requires rule_given { given.RuleGiven rule.now.words.now (given.set_words rule.now.words.now) by.now rows.now rule.now.at r }
+    requires going { going.Going rule.now.words.now (ids_of rule.now.words.now) (given.set_words rule.now.words.now) r (spec.remains state.computes state.visits state.leaves) state.waiting }
     requires some_left { 1 ≤ length (spec.remaining (spec.remains state.computes state.visits state.leaves)) }
-    requires along { masks.Along words.now by.now p state.visits state.wanted }
+    requires along { masks.Along rule.now.words.now by.now rule.now.at state.visits state.wanted }
     requires unblocked { blocking.Unblocked rows.now (limits.row_words r) state.waiting state.computes ready }
-    ensures taken { going.Taken words.now (ids_of words.now) (given.set_words words.now) r (spec.remains state.computes state.visits state.leaves) (spec.number result.step.action) (spec.remains result.step.state.computes result.step.state.visits result.step.state.leaves) result.step.state.waiting }
-    ensures along_2 { masks.Along words.now by.now p result.step.state.visits result.step.state.wanted }
+    ensures taken { going.Taken rule.now.words.now (ids_of rule.now.words.now) (given.set_words rule.now.words.now) r (spec.remains state.computes state.visits state.leaves) (spec.number result.step.action) (spec.remains result.step.state.computes result.step.state.visits result.step.state.leaves) result.step.state.waiting }
+    ensures along_2 { masks.Along rule.now.words.now by.now rule.now.at result.step.state.visits result.step.state.wanted }
     ensures unblocked_2 { blocking.Unblocked rows.now (limits.row_words r) result.step.state.waiting result.step.state.computes result.ready }
 {
     if ready != 0 {
@@ -89,7 +82,7 @@ fn next(
     }
     let visits = state.ready_visits();
     if visits != 0 {
-        let visited = state.visit(words, p, by, bits::first(visits));
+        let visited = state.visit(rule, by, bits::first(visits));
         return Turn {
             step: visited,
             ready: unblocked(
@@ -100,8 +93,8 @@ fn next(
             ),
         };
     }
-    let leaves = state.ready_leaves(words, p, by);
-    let left = state.leave(words, p, by, bits::first(leaves));
+    let leaves = state.ready_leaves(rule, by);
+    let left = state.leave(rule, by, bits::first(leaves));
     Turn {
         step: left,
         ready: unblocked(rows, ROWS * r, left.state.waiting, left.state.computes),
@@ -109,17 +102,17 @@ fn next(
 }
 
 // The words of the sequence: length, actions, zeros.
-fn words_of(words: &[u16], p: usize, r: usize, by: &ByVisit, rows: &[u64]) -> [u16; RULE_WORDS]
-    requires { given.RuleGiven words.now (given.set_words words.now) by.now rows.now p r }
-    ensures { result ≡ sequence_words (sequence_of words.now (ids_of words.now) (given.set_words words.now) r) }
+fn words_of(rule: &Rule<'_>, r: usize, by: &ByVisit, rows: &[u64]) -> [u16; RULE_WORDS]
+    requires { given.RuleGiven rule.now.words.now (given.set_words rule.now.words.now) by.now rows.now rule.now.at r }
+    ensures { result ≡ sequence_words (sequence_of rule.now.words.now (ids_of rule.now.words.now) (given.set_words rule.now.words.now) r) }
 {
-    let mut state = State::start(words, p, by);
+    let mut state = State::start(rule, by);
     let n = state.actions_left();
     let mut ready = unblocked(rows, ROWS * r, state.waiting, state.computes);
     let mut block = [0u16; RULE_WORDS];
     block[0] = n as u16;
     for j in 0..n {
-        let turn = next(words, p, r, by, rows, ready, state);
+        let turn = next(rule, r, by, rows, ready, state);
         let step = turn.step;
         block[j + 1] = step.action.word();
         state = step.state;
@@ -136,12 +129,12 @@ pub fn write(plan: &mut [u16], at: usize, block: &[u16])
     plan[at..at + block.len()].copy_from_slice(block);
 }
 
-// The visit-sequence of rule r, which starts at word p.
-pub fn sequence(words: &[u16], p: usize, r: usize, by: &ByVisit, rows: &[u64], plan: &mut [u16])
-    requires rule_given { given.RuleGiven words.now (given.set_words words.now) by.now rows.now p r }
-    requires words_in_bounds { limits.plan_words (table.rules words.now) ≤ length plan.old }
-    ensures { plan.new ≡ given.with_block plan.old (limits.plan_words r) (sequence_words (sequence_of words.now (ids_of words.now) (given.set_words words.now) r)) }
+// The visit-sequence of rule r.
+pub fn sequence(rule: &Rule<'_>, r: usize, by: &ByVisit, rows: &[u64], plan: &mut [u16])
+    requires rule_given { given.RuleGiven rule.now.words.now (given.set_words rule.now.words.now) by.now rows.now rule.now.at r }
+    requires plan_room { limits.plan_words (table.rules rule.now.words.now) ≤ length plan.old }
+    ensures { plan.new ≡ given.with_block plan.old (limits.plan_words r) (sequence_words (sequence_of rule.now.words.now (ids_of rule.now.words.now) (given.set_words rule.now.words.now) r)) }
 {
-    let block = words_of(words, p, r, by, rows);
+    let block = words_of(rule, r, by, rows);
     write(plan, SET_WORDS + RULE_WORDS * r, &block);
 }

@@ -1,7 +1,6 @@
 -- `bits::count` meets its contract: the digits that are set are the members. Assumes nothing.
-use mathlib.Core.Path.{◌∙◌}
 use Rattle.bits.proofs.CountLaws.{ones_count}
 use Rattle.bits.proofs.count.Goals as goal
 
 pub returns : goal.returns
-returns c = c.place.ensures ∙ ones_count 64 c.args.set c.ranges.set.fits
+returns c = ones_count 64 c.args.set c.ranges.set.fits

@@ -6,8 +6,8 @@ use Rattle.closing.proofs.close.Goals as goal
 pub loop-left-init : goal.loop-left-init
 loop-left-init c = search closing_start
 
-pub step-requires-clause-base_in_bounds : goal.step-requires-clause-base_in_bounds
-step-requires-clause-base_in_bounds c = (search rules, (search rules, (search rules, search some_here)))
+pub step-requires-clause-bounds : goal.step-requires-clause-bounds
+step-requires-clause-bounds c = (search rules, (search rules, search some_here))
 
 pub step-requires-clause-of_four : goal.step-requires-clause-of_four
 step-requires-clause-of_four c = search of_four

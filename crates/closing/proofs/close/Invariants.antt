@@ -3,7 +3,7 @@ use Rattle.closing.proofs.ClosureLaws.{Closing}
 use Rattle.closing.proofs.close.Given as goal
 
 abbrev pub invariant-loop-left : goal.invariant-loop-left
-invariant-loop-left l = Closing l.initial.rows l.base l.among l.left l.rows
+invariant-loop-left l = Closing l.initial.rows l.among l.left l.rows
 
 abbrev pub decreases-loop-left : goal.decreases-loop-left
 decreases-loop-left l = l.left

@@ -3,4 +3,4 @@ use Rattle.closing.proofs.InnerLaws.{Seeing}
 use Rattle.closing.proofs.inner.Given as goal
 
 abbrev pub invariant-loop-o : goal.invariant-loop-o
-invariant-loop-o l = Seeing l.rows l.base l.among l.starts l.ends l.o-iterator.left
+invariant-loop-o l = Seeing l.rows l.among l.starts l.ends l.o-iterator.left

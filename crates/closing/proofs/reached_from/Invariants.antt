@@ -3,4 +3,4 @@ use Rattle.closing.proofs.ReachLaws.{Reaching}
 use Rattle.closing.proofs.reached_from.Given as goal
 
 abbrev pub invariant-loop-b : goal.invariant-loop-b
-invariant-loop-b l = Reaching l.rows l.base l.set l.reached l.b-iterator.left
+invariant-loop-b l = Reaching l.rows l.set l.reached l.b-iterator.left

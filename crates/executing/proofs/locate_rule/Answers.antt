@@ -4,14 +4,11 @@ use borrow.Author.Rules.{rules}
 use Rattle.executing.proofs.LocatedLaws.{rule_few, start_is, rule_starts, locating_start, target_small_law, locating_turn, locating_finish}
 use Rattle.executing.proofs.locate_rule.Goals as goal
 
-pub rule_at-p-requires : goal.rule_at-p-requires
-rule_at-p-requires c = search rule_few
+pub rule_at-requires : goal.rule_at-requires
+rule_at-requires c = search rule_few
 
-pub first_function-f-requires : goal.first_function-f-requires
-first_function-f-requires c = search (rule_starts, start_is)
-
-pub function_count-k-end-requires : goal.function_count-k-end-requires
-function_count-k-end-requires c = search (rule_starts, start_is)
+pub invariant_of-rule : goal.invariant_of-rule
+invariant_of-rule c = record { near = search (rule_starts, start_is) }
 
 pub loop-k-init : goal.loop-k-init
 loop-k-init c = search (locating_start, start_is)

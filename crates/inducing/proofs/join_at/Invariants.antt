@@ -5,4 +5,4 @@ use Rattle.inducing.proofs.JoinLaws.{ArcFrom}
 use Rattle.inducing.proofs.join_at.Given as goal
 
 abbrev pub invariant-loop-a : goal.invariant-loop-a
-invariant-loop-a l = (l.a ≤ 8) × Joined l.initial.rows l.starts l.base (ArcFrom l.i l.arcs l.a) l.rows l.more
+invariant-loop-a l = (l.a ≤ 8) × Joined l.initial.rows l.starts (ArcFrom l.i l.arcs l.a) l.rows l.more

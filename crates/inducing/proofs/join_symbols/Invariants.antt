@@ -5,4 +5,4 @@ use Rattle.inducing.specs.Arcs.{SpreadArc}
 use Rattle.inducing.proofs.join_symbols.Given as goal
 
 abbrev pub invariant-loop-i : goal.invariant-loop-i
-invariant-loop-i l = (l.i ≤ l.n + 1) × Joined l.initial.rows 0 l.base (SpreadArc l.words l.p l.arcs l.i) l.rows l.starts
+invariant-loop-i l = (l.i ≤ l.n + 1) × Joined l.initial.rows 0 (SpreadArc l.rule.words.now l.rule.at l.arcs l.i) l.rows l.starts

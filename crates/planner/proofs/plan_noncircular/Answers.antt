@@ -4,6 +4,9 @@ use Rattle.planner.proofs.RoomLaws.{rows_room}
 use Rattle.planner.proofs.StageLaws.{sets_are_law, few_rules, search_room, ten_came, ordered_ready, plan_came}
 use Rattle.planner.proofs.plan_noncircular.Goals as goal
 
+pub sets_of-sets-requires : goal.sets_of-sets-requires
+sets_of-sets-requires c = c.args.table.now.accepted
+
 pub extend-requires-clause-sets_value : goal.extend-requires-clause-sets_value
 extend-requires-clause-sets_value c = search sets_are_law
 

@@ -5,7 +5,7 @@ use Rattle.remaining.proofs.BlockSetLaws.{Making}
 use Rattle.remaining.proofs.made_occurrences.Given as goal
 
 abbrev pub invariant-loop-i : goal.invariant-loop-i
-invariant-loop-i l = Making l.words l.p l.i-end l.made l.i
+invariant-loop-i l = Making l.rule.words.now l.rule.at l.i-end l.made l.i
 
 abbrev pub decreases-loop-i : goal.decreases-loop-i
 decreases-loop-i l = l.i-end - l.i

@@ -7,14 +7,14 @@ use Rattle.remaining.proofs.of_children.Goals as goal
 pub loop-i-init : goal.loop-i-init
 loop-i-init c = search (calling_start, rules)
 
-pub bounds-kept-symbol_of : goal.bounds-kept-symbol_of
-bounds-kept-symbol_of c = search calling_low
+pub bounds-kept-symbol : goal.bounds-kept-symbol
+bounds-kept-symbol c = search calling_low
 
 pub raised-requires : goal.raised-requires
 raised-requires c = (search calling_block, search calling_place)
 
 pub loop-i-preserved : goal.loop-i-preserved
-loop-i-preserved c = search (calling_turn, c.loop-i.invariant, c.loop-i-test.true, c.symbol_of.ensures.value, c.field-child.ensures, c.raised.ensures, c.union-found.ensures)
+loop-i-preserved c = search (calling_turn, c.loop-i.invariant, c.loop-i-test.true, c.symbol.ensures.value, c.field-child.ensures, c.raised.ensures, c.union-found.ensures)
 
 pub returns : goal.returns
 returns c = search calling_finish

@@ -5,7 +5,7 @@ use Rattle.remaining.proofs.BlockSetLaws.{Calling}
 use Rattle.remaining.proofs.of_children.Given as goal
 
 abbrev pub invariant-loop-i : goal.invariant-loop-i
-invariant-loop-i l = Calling l.words l.kept l.p l.n l.found l.i
+invariant-loop-i l = Calling l.rule.words.now l.kept l.rule.at l.n l.found l.i
 
 abbrev pub decreases-loop-i : goal.decreases-loop-i
 decreases-loop-i l = l.n - l.i

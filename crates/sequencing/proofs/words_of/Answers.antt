@@ -2,11 +2,8 @@
 -- left gives the others. The ones of the three sets count the turns. Assumes nothing.
 use borrow.Author.Rules.{rules}
 use Rattle.sequencing.proofs.WritingLaws.{shaped_given, writing_start, writing_left, writing_turn, writing_finish}
-use Rattle.sequencing.proofs.GivenLaws.{place_small, tabled_given, rows_room, rows_closed}
+use Rattle.sequencing.proofs.GivenLaws.{tabled_given, rows_room, rows_closed}
 use Rattle.sequencing.proofs.words_of.Goals as goal
-
-pub start-state-requires-clause-p_bound : goal.start-state-requires-clause-p_bound
-start-state-requires-clause-p_bound c = search place_small
 
 pub start-state-requires-clause-shaped : goal.start-state-requires-clause-shaped
 start-state-requires-clause-shaped c = search shaped_given

@@ -6,7 +6,7 @@ use Rattle.sequencing.specs.Given.{set_words}
 use Rattle.sequencing.proofs.words_of.Given as goal
 
 abbrev pub invariant-loop-j : goal.invariant-loop-j
-invariant-loop-j l = Writing l.words (set_words l.words) l.by l.rows l.p l.r l.n l.block l.state.computes l.state.visits l.state.leaves l.state.waiting l.state.wanted l.ready l.j
+invariant-loop-j l = Writing l.rule.words.now (set_words l.rule.words.now) l.by l.rows l.rule.at l.r l.n l.block l.state.computes l.state.visits l.state.leaves l.state.waiting l.state.wanted l.ready l.j
 
 abbrev pub decreases-loop-j : goal.decreases-loop-j
 decreases-loop-j l = l.n - l.j

@@ -4,7 +4,7 @@ use Rattle.closing.proofs.FourClosing.{FourClosing}
 use Rattle.closing.proofs.fours.closed.Given as goal
 
 abbrev pub invariant-loop-i : goal.invariant-loop-i
-invariant-loop-i l = (l.i ≤ 4) × FourClosing l.rows l.base l.here l.k l.i l.four
+invariant-loop-i l = (l.i ≤ 4) × FourClosing l.rows l.here l.k l.i l.four
 
 abbrev pub decreases-loop-i : goal.decreases-loop-i
 decreases-loop-i l = 4 - l.i

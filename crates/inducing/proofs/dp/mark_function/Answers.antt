@@ -10,7 +10,7 @@ pub known-a-requires : goal.known-a-requires
 known-a-requires c = search argument_there
 
 pub mark-requires : goal.mark-requires
-mark-requires c = (search rules, (search argument_small_law, search target_small_law))
+mark-requires c = (search argument_small_law, search target_small_law)
 
 pub loop-j-preserved : goal.loop-j-preserved
 loop-j-preserved c = (search rules, search (arguments_turn, c.mark.ensures))

@@ -5,4 +5,4 @@ use Rattle.inducing.specs.Arcs.{FunctionArc}
 use Rattle.inducing.proofs.dp.mark_function.Given as goal
 
 abbrev pub invariant-loop-j : goal.invariant-loop-j
-invariant-loop-j l = (l.j ≤ l.count) × Marked l.initial.rows l.base (FunctionArc l.words l.f l.j) l.rows
+invariant-loop-j l = (l.j ≤ l.count) × Marked l.initial.rows (FunctionArc l.words l.f l.j) l.rows

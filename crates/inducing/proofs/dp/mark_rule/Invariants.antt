@@ -4,4 +4,4 @@ use Rattle.inducing.proofs.FunctionLaws.{MarkingRule}
 use Rattle.inducing.proofs.dp.mark_rule.Given as goal
 
 abbrev pub invariant-loop-k : goal.invariant-loop-k
-invariant-loop-k l = (l.k ≤ l.count) × MarkingRule l.words l.p l.initial.rows l.base l.k l.f l.rows
+invariant-loop-k l = (l.k ≤ l.count) × MarkingRule l.rule.words.now l.rule.at l.initial.rows l.k l.f l.rows

@@ -5,4 +5,4 @@ use Rattle.inducing.specs.Stale.{Gathering}
 use Rattle.inducing.proofs.ids.gather.Given as goal
 
 abbrev pub invariant-loop-i : goal.invariant-loop-i
-invariant-loop-i l = (l.i ≤ l.n + 1) × Gathering l.words l.p l.rows l.base l.i l.naming l.initial.ids l.ids l.touched
+invariant-loop-i l = (l.i ≤ l.n + 1) × Gathering l.rule.words.now l.rule.at l.rows l.i l.naming l.initial.ids l.ids l.touched

@@ -7,17 +7,17 @@ use Rattle.inducing.proofs.RuleRowLaws.{rule_ruled}
 use Rattle.inducing.proofs.SpreadLaws.{symbol_small, position_inside}
 use Rattle.inducing.proofs.ids.name_rule.Goals as goal
 
-pub rule_at-p-requires : goal.rule_at-p-requires
-rule_at-p-requires c = search (rule_small, rule_in c.args.table.now _ c.requires.inside)
+pub rule_at-requires : goal.rule_at-requires
+rule_at-requires c = search (rule_small, rule_in c.args.table.now _ c.requires.inside)
 
-pub right_length-n-requires : goal.right_length-n-requires
-right_length-n-requires c = search (rule_near, rule_in c.args.table.now _ c.requires.inside)
+pub invariant_of-rule : goal.invariant_of-rule
+invariant_of-rule c = record { near = search (rule_near, rule_in c.args.table.now _ c.requires.inside) }
 
 pub loop-i-init : goal.loop-i-init
 loop-i-init c = (search rules, search named_start)
 
-pub symbol_of-x-requires : goal.symbol_of-x-requires
-symbol_of-x-requires c = search (rule_near, rules, rule_in c.args.table.now _ c.requires.inside)
+pub symbol-x-requires : goal.symbol-x-requires
+symbol-x-requires c = search (rule_near, rules, rule_in c.args.table.now _ c.requires.inside)
 
 pub bounds-naming-x : goal.bounds-naming-x
 bounds-naming-x c = search (symbol_small, rule_ruled, position_inside, rule_in c.args.table.now _ c.requires.inside)

@@ -4,20 +4,20 @@ use Rattle.reading.proofs.WholeLaws.{operation_past, constant_words, one_word, t
 use borrow.Author.Rules.{rules}
 use Rattle.reading.proofs.functions.operand_words.Goals as goal
 
-pub returns-in-0 : goal.returns-in-0
-returns-in-0 c = search (constant_words, rules)
+pub returns-then-op-eq8 : goal.returns-then-op-eq8
+returns-then-op-eq8 c = search four_words
 
-pub returns-in-1 : goal.returns-in-1
-returns-in-1 c = search one_word
+pub returns-then-op-eq7 : goal.returns-then-op-eq7
+returns-then-op-eq7 c = search three_words
 
-pub returns-in-2-to-6 : goal.returns-in-2-to-6
-returns-in-2-to-6 c = search (two_words, rules)
+pub returns-then-op-gt8 : goal.returns-then-op-gt8
+returns-then-op-gt8 c = search operation_past
 
-pub returns-in-7 : goal.returns-in-7
-returns-in-7 c = search three_words
+pub returns-then-op-ge2 : goal.returns-then-op-ge2
+returns-then-op-ge2 c = search (two_words, rules)
 
-pub returns-in-8 : goal.returns-in-8
-returns-in-8 c = search four_words
+pub returns-then-op-eq1 : goal.returns-then-op-eq1
+returns-then-op-eq1 c = search one_word
 
-pub returns-in_default : goal.returns-in_default
-returns-in_default c = search (operation_past, rules)
+pub returns : goal.returns
+returns c = search (constant_words, rules)

@@ -4,4 +4,4 @@ use Rattle.reading.proofs.FunctionLoop.{AtFunction}
 use Rattle.reading.proofs.functions.read_functions.Given as goal
 
 abbrev pub invariant-loop : goal.invariant-loop
-invariant-loop l = AtFunction l.words l.p l.occurrences l.defining l.count l.f l.undefined l.counter
+invariant-loop l = AtFunction l.rule.words.now l.rule.at l.occurrences l.defining l.count l.f l.undefined l.counter

@@ -9,8 +9,8 @@ returns-then-self-eq0 c = search no_leaves
 pub returns-then-rest-eq0 : goal.returns-then-rest-eq0
 returns-then-rest-eq0 c = search last_leaves
 
-pub synthesized_of-up-requires : goal.synthesized_of-up-requires
-synthesized_of-up-requires c = (search rules, search leave_few)
+pub of_visit-up-requires : goal.of_visit-up-requires
+of_visit-up-requires c = (search rules, search leave_few)
 
 pub returns : goal.returns
 returns c = search next_leaves

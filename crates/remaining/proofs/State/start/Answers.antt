@@ -6,8 +6,8 @@ use Rattle.remaining.proofs.State.start.Goals as goal
 pub visits_in-requires : goal.visits_in-requires
 visits_in-requires c = search left_low
 
-pub inherited_of-requires : goal.inherited_of-requires
-inherited_of-requires c = (search left_low, search rules)
+pub of_visit-requires : goal.of_visit-requires
+of_visit-requires c = (search left_low, search rules)
 
 pub returns : goal.returns
 returns c = search started_by

@@ -1,6 +1,6 @@
--- `access::symbol_of` meets its contract: position 0 is the rule's first word, and position i above it the word at p + 1 + i. Assumes nothing.
+-- `access::Rule::symbol` meets its contract: position 0 is the rule's first word, and position i above it the word at p + 1 + i. Assumes nothing.
 use Rattle.access.proofs.Laws.{symbol_left, symbol_right}
-use Rattle.access.proofs.symbol_of.Goals as goal
+use Rattle.access.proofs.Rule.symbol.Goals as goal
 
 pub returns-then-i-eq0-clause-value : goal.returns-then-i-eq0-clause-value
 returns-then-i-eq0-clause-value c = symbol_left _ _ _ _ c.if-i-eq0.true c.word.ensures.value

@@ -1,10 +1,10 @@
--- `access::defining_set` meets its contract. After i turns the set holds the defining occurrences of the positions up to i: on the left what is not
+-- `access::Rule::definings` meets its contract. After i turns the set holds the defining occurrences of the positions up to i: on the left what is not
 -- inherited, on the right the masks, which fit their blocks. Assumes nothing.
 use Rattle.access.proofs.Blocks.{attributes_left, mask_at, place_inside, definings_start, definings_more, definings_end}
-use Rattle.access.proofs.defining_set.Goals as goal
+use Rattle.access.proofs.Rule.definings.Goals as goal
 
-pub attribute_set-requires-clause-x_bound_2 : goal.attribute_set-requires-clause-x_bound_2
-attribute_set-requires-clause-x_bound_2 c = search attributes_left
+pub attribute_set-requires-clause-few_attributes : goal.attribute_set-requires-clause-few_attributes
+attribute_set-requires-clause-few_attributes c = search attributes_left
 
 pub loop-i-init : goal.loop-i-init
 loop-i-init c = search definings_start
