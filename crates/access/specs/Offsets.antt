@@ -1,4 +1,4 @@
--- What reading hands on besides its verdict: where each rule starts; and a rule of an accepted table, with these offsets at hand.
+-- Where each rule of a table starts, which `access::Table` has beside the words; and a rule of an accepted table, with these offsets at hand.
 -- Computed: no demand rests on it. Assumes nothing.
 use Rattle.std.specs.Prelude.{ℕ, ◌<◌, ◌≡◌, List, replicate, Ok, Err}
 use Rattle.basics.specs.Lists.{tabulate, padded}

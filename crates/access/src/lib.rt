@@ -29,7 +29,7 @@ impl Table<'_> {
         requires { r < most_rules }
         ensures { result ≡ get_or self.now.offsets r 0 }
     {
-        usize::from(self.offsets[r])
+        rule_at(&self.offsets, r)
     }
 }
 
@@ -182,6 +182,14 @@ pub fn nonterminal(words: &[u16], x: usize) -> bool
     ensures { result ≡ table.nonterminal words.now x }
 {
     kind(words, x) == 0
+}
+
+// The word at which rule r starts, by the offsets that reading hands on.
+pub fn rule_at(offsets: &Offsets, r: usize) -> usize
+    requires { r < most_rules }
+    ensures { result ≡ get_or offsets.now r 0 }
+{
+    usize::from(offsets[r])
 }
 
 // How many argument words an operation has.

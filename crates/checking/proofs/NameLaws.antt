@@ -184,7 +184,7 @@ pub once_root : (named : List ℕ) → Good ≡ named_fault named 0
 unfolding named_once named_fault
 once_root named = unless_true _ _ refl
 
-once_other : (named : List ℕ) (n : ℕ) → 1 ≤ n → named_once named n ≡ eqb (get_or named n 0) 1
+pub once_other : (named : List ℕ) (n : ℕ) → 1 ≤ n → named_once named n ≡ eqb (get_or named n 0) 1
 unfolding named_once
 once_other named zero h = absurd (omega arith)
 once_other named (suc n) h = refl

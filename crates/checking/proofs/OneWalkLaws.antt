@@ -512,7 +512,7 @@ module _ (g t : List ℕ) (n x s : ℕ) (w : AtTerminal g t n x) (e : s ≡ symb
 pub unread_rule : (before g t : List ℕ) (n r m : ℕ) → r ≡ rule_of t n → r < terminal_mark → m ≡ rules g → m ≤ r → Unread before g t n
 unread_rule before g t n r m e h f l = inl (not_known g t n (sym (le-ltb r m l) ∙ known_rule g t n r m e h f))
 
-terminal_read : (before g t : List ℕ) (n r s : ℕ) → r ≡ get_or t (8 * n) 0 → terminal_mark ≤ r → NodeFits g t n s → NodeRead before before g t n s
+pub terminal_read : (before g t : List ℕ) (n r s : ℕ) → r ≡ get_or t (8 * n) 0 → terminal_mark ≤ r → NodeFits g t n s → NodeRead before before g t n s
 terminal_read before g t n r s e h f =
     let z : 0 ≡ used_slots g t n = used_none g t n r e h in
     record {

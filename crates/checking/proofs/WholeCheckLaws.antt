@@ -67,7 +67,7 @@ left_err (Err m) w n e f = ap Refused e ∙ f
 
 -- what 12 shows
 module _ (t : List ℕ) (e : size_fits t ≡ true) where
-  size_shows : (1 ≤ nodes t) × (nodes t ≤ most_nodes)
+  pub size_shows : (1 ≤ nodes t) × (nodes t ≤ most_nodes)
   unfolding size_fits
   size_shows =
       let rest = and_right _ _ (true_T (size_fits t) e) in

@@ -169,7 +169,7 @@ module _ (g : List ℕ) (good : read_table g ≡ Good) where
 -- the same of the rule that the offsets lead to
 module _ (g offsets naming rows ids : List ℕ) (n r p among : ℕ) (l : RuleOf g offsets r) (e : p ≡ get_or offsets r 0) (w : Standing g n rows ids)
     (a : among ≡ occurrences_at g p) where
-  refresh_room : 64 * r + 64 ≤ length rows
+  pub refresh_room : 64 * r + 64 ≤ length rows
   refresh_room = omega (arith, w.holds.room, l.inside)
 
   pub refresh_kept : (own : List ℕ) → own ≡ rule_rows rows r → Kept own among

@@ -1,11 +1,8 @@
 -- A text typed into a lent buffer, as far as there is room, and the lines of a plan as they are read off its words.
 -- Assumes nothing.
-use Rattle.std.specs.Prelude.{ℕ, min, ◌≡◌, List, [], ◌∷◌, ◌++◌, length, take}
+use Rattle.std.specs.Prelude.{ℕ, min, ◌≡◌, List, ◌∷◌, ◌++◌, length, take}
 use Rattle.basics.specs.Lists.{tabulate, blocks}
-use Rattle.refusals.specs.declared.Refusal.{Refusal}
-use Rattle.refusals.specs.Numbers.{number_of, place_of, second_of}
-use Rattle.grammar.specs.Table.{symbols, rules, attributes}
-use Rattle.sets.specs.Visits.{set_number, visits}
+use Rattle.grammar.specs.Table.{symbols, rules}
 use Rattle.plans.specs.Buffers.{over}
 use Rattle.plans.specs.Sequences.{sequence_length, action_at}
 use Rattle.text.specs.Lines.{line, rule_word}
@@ -33,18 +30,6 @@ pub record Adds (out : List ℕ) (at : ℕ) (new out' : List ℕ) (at' : ℕ) : 
 pub record Types (page : Page) (new : List ℕ) (page' : Page) : Type 0 where
   pub same_buffer : page.out.ghost_name ≡ page'.out.ghost_name
   pub adds : Adds page.out.now page.at new page'.out.now page'.at
-
--- the three numbers of a refusal
-abbrev pub refusal_numbers : Refusal → List ℕ
-refusal_numbers r = number_of r ∷ place_of r ∷ second_of r ∷ []
-
--- the set of each attribute of symbol x in the words of plan p
-unfoldable pub set_numbers : List ℕ → List ℕ → ℕ → List ℕ
-set_numbers g p x = tabulate (attributes g x) (λ a. set_number p x a)
-
--- the numbers of symbol x in its line
-abbrev pub symbol_numbers : List ℕ → List ℕ → ℕ → List ℕ
-symbol_numbers g p x = x ∷ visits p x ∷ set_numbers g p x
 
 -- the actions of rule r in the words of plan p
 unfoldable pub actions_in : List ℕ → ℕ → List ℕ

@@ -26,8 +26,3 @@ pub record Counted (test : ℕ → Bool) (end count i : ℕ) : Type 0 where
   pub is : count ≡ changed_to test i
   pub few : count ≤ i
   pub inside : i ≤ end
-
--- 1 for a word that changed, else 0
-pub record One (changes : Bool) (n : ℕ) : Type 0 where
-  pub is : n ≡ cond changes 1 0
-  pub small : n ≤ 1

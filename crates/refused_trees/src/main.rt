@@ -2,6 +2,7 @@
 #![tactic(auto)]
 
 ghost use Rattle.std.specs.Prelude.{◌≤◌, ◌<◌, ◌≡◌, not, length, count_by};
+ghost use Rattle.refused_trees.specs.Changed as counts;
 
 use samples::{G, TWO_LINES};
 use std::io;
@@ -18,6 +19,25 @@ fn changed<T: Copy + PartialEq>(items: &[T], before: T) -> usize
     ensures { result ≡ count_by (λ x. not (T.eq x before)) items.now }
 {
     items.iter().filter(|x| **x != before).count()
+}
+
+// Of the values, of the rows and of the plan: how many are no longer what stood there.
+fn values_changed(values: &[i32]) -> usize
+    ensures { result ≡ counts.values_changed values.now }
+{
+    changed(values, VALUE)
+}
+
+fn rows_changed(rows: &[u64]) -> usize
+    ensures { result ≡ counts.changed rows.now 18446744073709551615 }
+{
+    changed(rows, ROW)
+}
+
+fn words_changed(plan: &[u16]) -> usize
+    ensures { result ≡ counts.changed plan.now 65535 }
+{
+    changed(plan, WORD)
 }
 
 // A run over the first words of this tree with the first of these values; rows and plan have room to spare.
@@ -43,9 +63,9 @@ fn run_part(
     printing::answer(rt, report)?;
     println!(rt;
         " values {} rows {} plan {}",
-        changed(values, VALUE),
-        changed(&rows, ROW),
-        changed(&plan, WORD)
+        values_changed(values),
+        rows_changed(&rows),
+        words_changed(&plan)
     )
 }
 

@@ -7,15 +7,15 @@ use mathlib.Core.Bool.{Bool, true, false, cond}
 use borrow.Author.Tests.{ne_eqb}
 use lib.Dec.{eqb}
 use lib.ListN.{get_or, get_or-eq_default}
-use lib.IntN.{ℤ, pos}
+use lib.IntN.{ℤ, pos, ◌+ℤ◌, ◌-ℤ◌}
 use lib.Signed.{lt_z, mag}
 use mir.Syntax.{Width, w16, w32}
 use mir.Val.{SFits, to_z, of_z}
 use mir.Facts.{to_z-of_z, sfits_lit}
-use Rattle.std.specs.Int.{from_bool}
+use Rattle.std.specs.Int.{saturate_signed, from_bool}
 use Rattle.std.proofs.lemmas.Int.{ints, of_z-to_z}
 use Rattle.values.specs.Value.{hold, constant, exact, results, result, same, truth, choose, served_before}
-use Rattle.values.proofs.ValueLaws.{constant_fits, hold_same, result_fits, truth_fits, truth_is, same_true, same_false, served}
+use Rattle.values.proofs.ValueLaws.{saturated, constant_fits, hold_same, hold_fits, result_fits, truth_fits, truth_is, same_true, same_false, served}
 
 -- a number that fits, by another name, is read back
 pub read : {w : Width} {r z : ℤ} → r ≡ z → SFits w z → to_z w (of_z w r) ≡ z
@@ -43,6 +43,28 @@ pub word_signed : (n : ℕ) {r s : ℤ} → n < 2 ^ 16 → s ≡ to_z w16 n → 
 word_signed n h e d =
     read (d ∙ ap (λ (z : ℤ). to_z w16 (of_z w16 z)) e ∙ ap (to_z w16) (of_z-to_z w16 n h) ∙ word_is n h) (constant_fits n h)
 
+-- the same, with the definition first: by it `grind` finds the word in a goal
+pub constant_read : (n : ℕ) → n < 2 ^ 16 → constant n ≡ to_z w32 (of_z w32 (to_z w16 (of_z w16 (to_z w16 n))))
+constant_read n h = sym (word_signed n h refl refl)
+
+-- ---- a sum or a difference
+
+-- what std answers, by its bits and those of x and y, is the exact number, held at the ends
+held : (operation : ℤ → ℤ → ℤ) {x y : ℤ} → SFits w32 x → SFits w32 y
+    → hold (operation x y) ≡ to_z w32 (of_z w32 (saturate_signed w32 (operation (to_z w32 (of_z w32 x)) (to_z w32 (of_z w32 y)))))
+held operation {x} {y} f g =
+    sym (read (saturated (operation x y) refl) (hold_fits (operation x y)))
+    ∙ sym (ap₂ (λ (v w : ℤ). to_z w32 (of_z w32 (saturate_signed w32 (operation v w)))) (to_z-of_z f) (to_z-of_z g))
+
+-- for a sum and for a difference, with `hold` first: by it `grind` finds x and y in a goal
+pub sum_held : (x y : ℤ) → SFits w32 x → SFits w32 y
+    → hold (x +ℤ y) ≡ to_z w32 (of_z w32 (saturate_signed w32 (to_z w32 (of_z w32 x) +ℤ to_z w32 (of_z w32 y))))
+sum_held x y f g = held ◌+ℤ◌ f g
+
+pub difference_held : (x y : ℤ) → SFits w32 x → SFits w32 y
+    → hold (x -ℤ y) ≡ to_z w32 (of_z w32 (saturate_signed w32 (to_z w32 (of_z w32 x) -ℤ to_z w32 (of_z w32 y))))
+difference_held x y f g = held ◌-ℤ◌ f g
+
 -- ---- the answer of an operation
 
 -- what lies between the ends is what it is held at
@@ -57,6 +79,17 @@ unfolding result exact
 answered k {op} {x} {y} {z} {t} fx fy fz ft e h =
     read (h ∙ (λ i. hold (get_or (results (to_z-of_z fx i) (to_z-of_z fy i) (to_z-of_z fz i) (to_z-of_z ft i)) k (pos 0)))) (result_fits k x y z t)
     ∙ ap (λ (n : ℕ). result n x y z t) (sym e)
+
+-- operations 2 and 3, with the definition first: by it `grind` finds the operation in a goal
+pub sum_read : (x y z t : ℤ) → SFits w32 x → SFits w32 y
+    → result 2 x y z t ≡ to_z w32 (of_z w32 (saturate_signed w32 (to_z w32 (of_z w32 x) +ℤ to_z w32 (of_z w32 y))))
+unfolding result exact
+sum_read x y z t f g = sum_held x y f g
+
+pub difference_read : (x y z t : ℤ) → SFits w32 x → SFits w32 y
+    → result 3 x y z t ≡ to_z w32 (of_z w32 (saturate_signed w32 (to_z w32 (of_z w32 x) -ℤ to_z w32 (of_z w32 y))))
+unfolding result exact
+difference_read x y z t f g = difference_held x y f g
 
 -- operations 0 and 1 hand on their argument
 pub handed_on : (op : ℕ) {x : ℤ} (y z t : ℤ) → SFits w32 x → op < 2 → to_z w32 (of_z w32 x) ≡ result op x y z t

@@ -6,6 +6,7 @@ ghost use Rattle.std.specs.Prelude.{◌≡◌};
 ghost use Rattle.values.specs.Value as value;
 
 // A constant word of 16 bits, in two's complement.
+#[tactic(auto, using(crate::proofs::LocalLaws::constant_read))]
 pub fn constant(word: u16) -> i32
     ensures { result ≡ value.constant word }
 {
@@ -20,6 +21,7 @@ fn served_before(p: i32, s: i32, q: i32, t: i32) -> i32
 }
 
 // The value of an operation by its number. A number that no operation has gives 0: the reader of tables lets none through.
+#[tactic(auto, using(crate::proofs::LocalLaws::sum_read, crate::proofs::LocalLaws::difference_read))]
 pub fn result(op: u16, x: i32, y: i32, z: i32, t: i32) -> i32
     ensures { result ≡ value.result op x y z t }
 {

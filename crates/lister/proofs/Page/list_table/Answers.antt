@@ -1,7 +1,6 @@
 -- `lister::Page::list_table` meets its contract: what planning refuses is typed as its refusal, what it accepts as the lines of its plan. Assumes nothing.
 use Prim.Native.Nat.{ℕ}
 use lib.ListN.{length-replicate}
-use Rattle.std.specs.Prelude.{Ok, Err}
 use Rattle.grammar.specs.Limits.{most_rules, row_words, plan_words}
 use Rattle.lister.proofs.TableLaws as table
 use Rattle.lister.proofs.Page.list_table.Goals as goal
