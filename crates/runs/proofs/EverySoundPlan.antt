@@ -9,6 +9,7 @@ use native.Mathlib.Omega.{arith}
 use lib.Dec.{T, lt→ltb}
 use lib.IntN.{ℤ}
 use lib.ListN.{length}
+use Rattle.std.specs.Prelude.{Ok}
 use Rattle.basics.specs.Lists.{word}
 use Rattle.basics.proofs.TestLaws.{below_or_not}
 use Rattle.grammar.specs.Limits.{longest_sequence}
@@ -73,11 +74,11 @@ module _ (g p t : List ℕ) (values : List ℤ) (good : read_table g ≡ Good) (
       (below_or_not budget (total p t))
 
   -- the same of a table that is planned and a tree that is accepted: what is answered
-  pub answer_done : (budget : ℕ) → total p t ≤ budget → run_answer g p t planned Good values budget ≡ reported (R.TheVariants.Done (total p t))
+  pub answer_done : (budget : ℕ) → total p t ≤ budget → run_answer g p t planned Good values budget ≡ Ok (record { ran = R.TheVariants.Done (total p t) })
   unfolding run_answer
   answer_done budget h = ap reported (run_done budget h)
 
-  pub answer_stopped : (budget : ℕ) → budget < total p t → run_answer g p t planned Good values budget ≡ reported (R.TheVariants.Stopped budget)
+  pub answer_stopped : (budget : ℕ) → budget < total p t → run_answer g p t planned Good values budget ≡ Ok (record { ran = R.TheVariants.Stopped budget })
   unfolding run_answer
   answer_stopped budget h = ap reported (run_stopped budget h)
 

@@ -56,15 +56,6 @@ held operation {x} {y} f g =
     sym (read (saturated (operation x y) refl) (hold_fits (operation x y)))
     ∙ sym (ap₂ (λ (v w : ℤ). to_z w32 (of_z w32 (saturate_signed w32 (operation v w)))) (to_z-of_z f) (to_z-of_z g))
 
--- for a sum and for a difference, with `hold` first: by it `grind` finds x and y in a goal
-pub sum_held : (x y : ℤ) → SFits w32 x → SFits w32 y
-    → hold (x +ℤ y) ≡ to_z w32 (of_z w32 (saturate_signed w32 (to_z w32 (of_z w32 x) +ℤ to_z w32 (of_z w32 y))))
-sum_held x y f g = held ◌+ℤ◌ f g
-
-pub difference_held : (x y : ℤ) → SFits w32 x → SFits w32 y
-    → hold (x -ℤ y) ≡ to_z w32 (of_z w32 (saturate_signed w32 (to_z w32 (of_z w32 x) -ℤ to_z w32 (of_z w32 y))))
-difference_held x y f g = held ◌-ℤ◌ f g
-
 -- ---- the answer of an operation
 
 -- what lies between the ends is what it is held at
@@ -84,12 +75,12 @@ answered k {op} {x} {y} {z} {t} fx fy fz ft e h =
 pub sum_read : (x y z t : ℤ) → SFits w32 x → SFits w32 y
     → result 2 x y z t ≡ to_z w32 (of_z w32 (saturate_signed w32 (to_z w32 (of_z w32 x) +ℤ to_z w32 (of_z w32 y))))
 unfolding result exact
-sum_read x y z t f g = sum_held x y f g
+sum_read x y z t f g = held ◌+ℤ◌ f g
 
 pub difference_read : (x y z t : ℤ) → SFits w32 x → SFits w32 y
     → result 3 x y z t ≡ to_z w32 (of_z w32 (saturate_signed w32 (to_z w32 (of_z w32 x) -ℤ to_z w32 (of_z w32 y))))
 unfolding result exact
-difference_read x y z t f g = difference_held x y f g
+difference_read x y z t f g = held ◌-ℤ◌ f g
 
 -- operations 0 and 1 hand on their argument
 pub handed_on : (op : ℕ) {x : ℤ} (y z t : ℤ) → SFits w32 x → op < 2 → to_z w32 (of_z w32 x) ≡ result op x y z t
